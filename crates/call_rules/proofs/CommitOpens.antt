@@ -19,7 +19,9 @@ use Rattle.store_model.specs.Doubt.{follows, session_landed}
 use Rattle.store_model.specs.ReplayState.{PhaseOpening, opening}
 use Rattle.store_model.proofs.MadeChanges.{unrefused}
 use Rattle.core_laws.specs.EntryLists.{AreDistinct}
-use Rattle.core_laws.specs.EntryChanges.{Clear, EntryChange, Enters, IsEntryOf, IsNewEntry, IsNextEntry, Put, changed, file_put, index_of}
+use Rattle.core_laws.specs.declared.EntryChange.{EntryChange}
+use Rattle.core_laws.specs.declared.EntryChange.TheVariants.{Clear, Put}
+use Rattle.core_laws.specs.EntryChanges.{Enters, IsEntryOf, IsNewEntry, IsNextEntry, changed, file_put, index_of}
 use Rattle.open_table.specs.HandleChanges.{NotesReply}
 use Rattle.call_rules.specs.OpenHandles.{AreOpen}
 use Rattle.call_rules.specs.OpenLaws.{NotesLanding}

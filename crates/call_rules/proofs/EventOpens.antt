@@ -20,7 +20,8 @@ use Rattle.store_model.specs.Legal.IsLegalAnswer.{Answered, Unavailable, Doubted
 use Rattle.store_model.specs.Record.{file_of}
 use Rattle.store_model.specs.ReplayState.{ReplayState, is_undone, replay_after, replay_landed}
 use Rattle.core_laws.specs.EntryLists.{AreDistinct}
-use Rattle.core_laws.specs.EntryChanges.{EntryChange, IsChange, changed, file_put}
+use Rattle.core_laws.specs.declared.EntryChange.{EntryChange}
+use Rattle.core_laws.specs.EntryChanges.{IsChange, changed, file_put}
 use Rattle.open_table.specs.HandleChanges.{NotesReply}
 use Rattle.core_laws.specs.Records.{HistoryRecord}
 use Rattle.core_laws.specs.Given.{DiffersInBytes, Tells, decoding_given}

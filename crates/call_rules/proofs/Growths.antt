@@ -34,7 +34,7 @@ use Rattle.core_laws.specs.EntryLists.{AreDistinct}
 use Rattle.call_rules.specs.Growth.{allowed_totals}
 use Rattle.call_rules.specs.Matches.{Matches}
 use Rattle.call_rules.specs.Objects.{IsOfObject}
-use Rattle.call_rules.specs.Told.{IsTold, told}
+use Rattle.call_rules.specs.Told.{IsTold}
 use Rattle.call_rules.proofs.SoundMatches.{IsGood, all_good}
 use Rattle.call_rules.proofs.WeighedShapes.{totals_entries}
 

@@ -14,7 +14,8 @@ use Rattle.store_model.proofs.MapLaws.{object_at-with, object_at-changed, rising
 use Rattle.dir_records.specs.declared.entry.DirEntry.{DirEntry}
 use Rattle.core_laws.specs.Entries.{name_of}
 use Rattle.core_laws.specs.EntryLists.{AreDistinct, entry_at}
-use Rattle.core_laws.specs.EntryChanges.{Put, Clear, IsEntryOf, IsPlaceOf}
+use Rattle.core_laws.specs.declared.EntryChange.TheVariants.{Put, Clear}
+use Rattle.core_laws.specs.EntryChanges.{IsEntryOf, IsPlaceOf}
 use Rattle.core_laws.proofs.EntryMaps.{self}
 use Rattle.core_laws.proofs.Lists.{set_here}
 use Rattle.call_rules.specs.Shapes.{HasShape}

@@ -4,7 +4,8 @@ use Rattle.store_model.specs.Object.{Object, ObjectMap}
 use Rattle.store_model.specs.Makes.{MapChange, changed_map}
 use Rattle.dir_records.specs.declared.entry.DirEntry.{DirEntry}
 use Rattle.core_laws.specs.EntryLists.{AreDistinct}
-use Rattle.core_laws.specs.EntryChanges.{EntryChange, IsChange, changed}
+use Rattle.core_laws.specs.declared.EntryChange.{EntryChange}
+use Rattle.core_laws.specs.EntryChanges.{IsChange, changed}
 use Rattle.call_rules.specs.Shapes.{HasShape}
 
 -- Of a create, a write, a truncation, a rename and a delete: the entries with the change are those of the changed map.

@@ -11,7 +11,8 @@ use Rattle.store_model.specs.Machine.{MachineState}
 use Rattle.store_model.specs.Makes.{MakesChange, MapChange}
 use Rattle.store_model.specs.Doubt.{Doubt}
 use Rattle.core_laws.specs.EntryLists.{AreDistinct}
-use Rattle.core_laws.specs.EntryChanges.{EntryChange, IsChange, changed, file_put}
+use Rattle.core_laws.specs.declared.EntryChange.{EntryChange}
+use Rattle.core_laws.specs.EntryChanges.{IsChange, changed, file_put}
 use Rattle.open_table.specs.HandleChanges.{NotesReply}
 use Rattle.core_laws.specs.Records.{HistoryRecord}
 use Rattle.core_laws.specs.TamperScenarios.{TamperScenario}

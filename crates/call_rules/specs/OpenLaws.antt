@@ -14,7 +14,8 @@ use Rattle.store_model.specs.Calls.{is_commit, reply_of, state_after}
 use Rattle.store_model.specs.Doubt.{Doubt, state_landed}
 use Rattle.store_model.specs.ReplayState.{PhaseOpening, is_undone, opening}
 use Rattle.core_laws.specs.EntryLists.{AreDistinct}
-use Rattle.core_laws.specs.EntryChanges.{EntryChange, IsChange, changed, file_put}
+use Rattle.core_laws.specs.declared.EntryChange.{EntryChange}
+use Rattle.core_laws.specs.EntryChanges.{IsChange, changed, file_put}
 use Rattle.open_table.specs.HandleChanges.{DropsHandle, NotesReply}
 use Rattle.call_rules.specs.HandleLaws.{IsDue}
 use Rattle.call_rules.specs.OpenHandles.{AreOpen, HasFile}

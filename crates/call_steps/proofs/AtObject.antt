@@ -7,7 +7,8 @@ use Rattle.core_laws.specs.GateParts.{IsVersionOf}
 use Rattle.crash_core.proofs.Doubles.{below}
 use Rattle.crash_core.specs.DirectoryLaws.{AreEntries}
 use Rattle.crash_core.specs.Entries.{name_of}
-use Rattle.crash_core.specs.EntryChanges.{Put, changed}
+use Rattle.crash_core.specs.declared.change.EntryChange.TheVariants.{Put}
+use Rattle.crash_core.specs.EntryChanges.{changed}
 use Rattle.crash_core.specs.EntryLists.{IsAlone, entry_at}
 use Rattle.dir_records.specs.Form.{HasForm}
 use Rattle.dir_records.specs.declared.entry.DirEntry.{DirEntry}
@@ -18,7 +19,6 @@ use Rattle.history_seats.specs.Directory.{given_version}
 use Rattle.history_seats.specs.Records.{Version}
 use Rattle.history_seats.specs.Views.{GateView, SlotView}
 use Rattle.commit_gate.proofs.Knowing.{shown_stand}
-use Rattle.commit_gate.specs.GuardedGates.{change_in_doubt}
 use Rattle.commit_gate.specs.declared.guarded_gate.Closing.{Closing}
 use Rattle.call_rules.proofs.ReplayHandles.{well_replay-answered}
 use Rattle.call_rules.specs.WellOpened.{IsSoundAt}
@@ -101,7 +101,7 @@ module _ {F R E : Type 0} (store : Store) (gate : GateValue F R) (knows : GateVi
 
     pub fact_here : IsEntryFact store.keys scenario (given_version store.mounted knows.all) (entries_at store knows.all).now here e
     fact_here =
-        (tied_tell store scenario knows entries gate.counter (change_in_doubt gate.doubt) at_object.guarded.tied at_object.entries answered mapped_here).facts.each index e entry_there
+        (tied_tell store scenario knows entries gate.counter gate.doubt at_object.guarded.tied at_object.entries answered mapped_here).facts.each index e entry_there
 
     -- the object is there, and what stands for the version
     pub object_here : object_at here.state.objects (name_of e) ≡ Some (object_under store.keys scenario e.file e.generation v)

@@ -8,14 +8,12 @@ use Rattle.rpmb_card.specs.Card.{CardState}
 use Rattle.rpmb_card.specs.Port.{PortState}
 use Rattle.tee_types.specs.declared.call.Call.{Call}
 use Rattle.tee_types.specs.declared.reply.Reply.{Reply}
-use Rattle.store_model.specs.declared.event.Event.TheVariants.{Call as CallEvent}
-use Rattle.store_model.specs.declared.event.Mark.{Mark}
 use Rattle.store_model.specs.Legal.{IsLegalEvent}
 use Rattle.store_model.specs.Record.{Tag, file_of}
 use Rattle.store_model.specs.ReplayState.{ReplayState}
 use Rattle.commit_gate.specs.View.{DirView}
 use Rattle.dir_records.specs.declared.entry.DirEntry.{DirEntry}
-use Rattle.history_seats.specs.Changes.{TagVersions, with_record}
+use Rattle.history_seats.specs.Changes.{TagVersions, with_record, call_record}
 use Rattle.history_seats.specs.Numbers.{is_in}
 use Rattle.history_seats.specs.Records.{HistoryRecord, Version}
 use Rattle.history_seats.specs.Views.{GateView, SlotView}
@@ -28,8 +26,7 @@ use Rattle.core_laws.specs.Stores.{Store, replay_at}
 use Rattle.commit_gate.specs.declared.CommitEnd.{CommitEnd}
 use Rattle.commit_gate.specs.declared.CommitEnd.TheVariants.{Made, Dropped, Doubtful, Spent}
 use Rattle.commit_gate.specs.declared.EntryChange.{EntryChange}
-use Rattle.commit_gate.specs.declared.Doubted.{Doubted}
-use Rattle.commit_gate.specs.Changes.{change_of}
+use Rattle.commit_gate.specs.declared.DoubtedChange.{DoubtedChange}
 use Rattle.commit_gate.specs.Ends.{Leaves}
 use Rattle.commit_gate.specs.Gates.{LeavesHolds, gate_sides}
 use Rattle.commit_gate.specs.Holds.{AreHolds}
@@ -40,14 +37,14 @@ use Rattle.commit_gate.specs.CallerSessions.{CallerSession}
 use Rattle.core_laws.specs.CommitMaps.{IsCommitUnder}
 use Rattle.core_laws.specs.Ties.{MakesEntries}
 use Rattle.core_laws.proofs.Told.{tied_make}
-use Rattle.commit_gate.specs.CommitSteps.{IsForCall, IsGateCommit, commit_event, end_mark}
+use Rattle.commit_gate.specs.CommitSteps.{IsForCall, IsGateCommit}
 use Rattle.commit_gate.specs.FinishedPhases.{phase_under}
 use Rattle.commit_gate.specs.Resting.{IsGateOf, StepsTo, resting_part}
 use Rattle.commit_gate.proofs.CommitSteps.{commits_are_steps}
 use Rattle.commit_gate.specs.declared.placed_reply.PlacedReply.{PlacedReply}
 use Rattle.commit_gate.specs.Commits.{EndsUnder, IsDueUnder, tag_of}
 use Rattle.commit_gate.specs.GateEnds.{mark_told, reply_told}
-use Rattle.commit_gate.specs.GuardedGates.{GuardedGateValue, change_in_doubt}
+use Rattle.commit_gate.specs.GuardedGates.{GuardedGateValue}
 use Rattle.call_steps.specs.CommitMoves.{BringsCommit, ObjectCommitsAreSteps, handed_slot}
 use Rattle.call_steps.specs.ServiceCores.{IsDirectoryHonest, IsPart, StepsOn}
 use Rattle.call_steps.specs.HandedSlots.{IsHandedFor}
@@ -64,12 +61,6 @@ contains-in n (m ∷ numbers) there = elim (contains_cases m n numbers there) [
     by_test : (b : Bool) → is_in n numbers ≡ true → (b || is_in n numbers) ≡ true
     by_test true found = refl
     by_test false found = found
-
-same_mark : (end : CommitEnd) → end_mark end ≡ mark_told end
-same_mark (Made n) = refl
-same_mark (Dropped cause) = refl
-same_mark (Doubtful n cause) = refl
-same_mark Spent = refl
 
 -- the holds are apart from the entries behind it, too
 still_held : (old new : Sides) (change : EntryChange) (end : CommitEnd) (before after : List (Option ℕ)) → AreHolds old.dir.entries before → Leaves old new change end
@@ -113,7 +104,7 @@ module _ {F R E : Type 0} (of_file : F → FileState) (of_port : R → PortState
   Ends = EndsUnder store scenario view.all was.number was.made call own seat
 
   -- under the tamper scenario the machine commits the call, or the promises end there
-  due_or_ends : IsDueUnder store scenario view.all was.number call own (change_of change) tag ⊎ Ends
+  due_or_ends : IsDueUnder store scenario view.all was.number call own change tag ⊎ Ends
   due_or_ends = elim (cases_Bool (is_in seat.file scenario.tampered)) [
     | inl among ↦ b.committable.commit.ready.due scenario answered (Contains-from_any {eq = λ (q m : ℕ). m == q} (λ x y e. sym (eqb-true y x e)) seat.file scenario.tampered among)
     | inr off ↦
@@ -123,9 +114,9 @@ module _ {F R E : Type 0} (of_file : F → FileState) (of_port : R → PortState
   ]
 
   -- the event of the commit is the last of the history
-  event_is : commit_event was.number was.made call (reply_told end own) end b.committed.last.tag ≡ b.committed.last
+  event_is : call_record was.number was.made call (reply_told end own) (mark_told end) b.committed.last.tag ≡ b.committed.last
   event_is = λ i. record {
-    event = (ap (λ (mark : Mark). CallEvent was.number was.made call (reply_told end own) mark) (same_mark end) ∙ sym b.committed.event) i;
+    event = sym b.committed.event i;
     tag = b.committed.last.tag;
   }
 
@@ -142,8 +133,8 @@ module _ {F R E : Type 0} (of_file : F → FileState) (of_port : R → PortState
   handed_for : IsHandedFor store scenario (handed_slot slot) tag
   handed_for = record { file = sym b.committable.number; sound = b.slot_sound; honest = slot_honest; stands = b.committable.committable.stands }
 
-  module _ (due : IsDueUnder store scenario view.all was.number call own (change_of change) tag) where
-    commit_under : IsCommitUnder store scenario view before.dir.entries before.counter was.number call (change_of change) tag tag.doubted
+  module _ (due : IsDueUnder store scenario view.all was.number call own change tag) where
+    commit_under : IsCommitUnder store scenario view before.dir.entries before.counter was.number call change tag tag.doubted
     commit_under = record {
       answered = answered;
       mapped = (p.guarded.journal.in_step scenario answered).now;
@@ -153,14 +144,14 @@ module _ {F R E : Type 0} (of_file : F → FileState) (of_port : R → PortState
       object = due.object;
     }
 
-    made : MakesEntries here was.number call before.dir.entries (change_of change)
+    made : MakesEntries here was.number call before.dir.entries change
     made =
-        tied_make store scenario view before.dir.entries before.counter (change_in_doubt old.gate.doubt) p.guarded.tied answered commit_under.mapped was.number call (change_of change) tag tag.doubted
+        tied_make store scenario view before.dir.entries before.counter old.gate.doubt p.guarded.tied answered commit_under.mapped was.number call change tag tag.doubted
         commit_under.commit commit_under.on due.due
 
-    enters : IsChange here.state.objects before.dir.entries before.counter made.made (change_of change) made.object
+    enters : IsChange here.state.objects before.dir.entries before.counter made.made change made.object
     enters =
-        subst (λ (n : ℕ). IsChange here.state.objects before.dir.entries n made.made (change_of change) made.object) (p.guarded.tied.counter scenario answered) made.enters
+        subst (λ (n : ℕ). IsChange here.state.objects before.dir.entries n made.made change made.object) (p.guarded.tied.counter scenario answered) made.enters
 
     for_call : IsForCall store scenario (Some (handed_slot slot)) before view change was.number call
     for_call = record {
@@ -169,17 +160,17 @@ module _ {F R E : Type 0} (of_file : F → FileState) (of_port : R → PortState
       makes = made.makes;
       object = made.object;
       enters = enters;
-      shows = handed_slots_show store scenario view before.dir.entries before.counter (change_in_doubt old.gate.doubt) was.number call (change_of change) tag (handed_slot slot) made.made
+      shows = handed_slots_show store scenario view before.dir.entries before.counter old.gate.doubt was.number call change tag (handed_slot slot) made.made
           made.object p.guarded.tied commit_under handed_for made.makes enters;
     }
 
     pub steps_on : StepsOn of_file of_port store scenario (Some (handed_slot slot)) old card new
     steps_on =
         subst
-        (λ (x : Option Doubted × Option Doubted × GateView). StepsTo store scenario (Some (handed_slot slot)) (resting_part store scenario before x.0 old.gate.holds card view) after x.1 new.gate.holds x.2)
+        (λ (x : Option DoubtedChange × Option DoubtedChange × GateView). StepsTo store scenario (Some (handed_slot slot)) (resting_part store scenario before x.0 old.gate.holds card view) after x.1 new.gate.holds x.2)
         (λ i. (sym b.idle i, sym b.committed.gate.doubt i, (ap (λ (r : HistoryRecord). with_record r view) event_is ∙ sym b.committed.knows) i))
         (commits_are_steps store scenario (Some (handed_slot slot)) before after change end old.gate.holds new.gate.holds card view was.number was.made call (reply_told end own) b.committed.last.tag
-        (subst (λ (o : Option Doubted). IsGateOf store before o old.gate.holds card) b.idle p.gate) gate_commit for_call honest
+        (subst (λ (o : Option DoubtedChange). IsGateOf store before o old.gate.holds card) b.idle p.gate) gate_commit for_call honest
         (subst (λ (r : HistoryRecord). IsLegalEvent scenario.tampered here r.event (file_of {Root = Version} r)) (sym event_is) legal))
 
   pub committable : StepsOn of_file of_port store scenario (Some (handed_slot slot)) old card new ⊎ Ends

@@ -14,7 +14,7 @@ use Rattle.commit_gate.specs.Steps.{Steps}
 use Rattle.commit_gate.specs.declared.CommitEnd.{CommitEnd}
 use Rattle.commit_gate.specs.declared.CommitEnd.TheVariants.{Doubtful, Dropped, Made, Spent}
 use Rattle.commit_gate.specs.declared.EntryChange.{EntryChange}
-use Rattle.commit_gate.specs.declared.Doubted.{Doubted}
+use Rattle.commit_gate.specs.declared.DoubtedChange.{DoubtedChange}
 use Rattle.store_model.specs.declared.event.Event.{Event}
 use Rattle.store_model.specs.declared.event.Event.TheVariants.{Call as CallEvent, Landed}
 use Rattle.store_model.specs.declared.event.Mark.{Mark}
@@ -65,7 +65,7 @@ pub settled_counts : (g : Sides) → DoubtStands g None → (card : CardState) �
 settled_counts g stands card has = (stands.named card has).counted
 
 -- and that or the next, while one is
-pub doubted_counts : (g : Sides) (d : Doubted) → DoubtStands g (Some d) → (card : CardState) → HasCard g.port g.key card → (card.counter ≡ g.counter) ⊎ (card.counter ≡ g.counter + 1)
+pub doubted_counts : (g : Sides) (d : DoubtedChange) → DoubtStands g (Some d) → (card : CardState) → HasCard g.port g.key card → (card.counter ≡ g.counter) ⊎ (card.counter ≡ g.counter + 1)
 doubted_counts g d stands card has = elim (stands.stands.named card has) [
   | inl old ↦ inl old.counted
   | inr next ↦ inr next.counted

@@ -9,7 +9,9 @@ use Rattle.call_rules.specs.declared.decision.NewPlace.TheVariants.{Adds, Replac
 use Rattle.crash_core.proofs.Doubles.{below}
 use Rattle.crash_core.proofs.Names.{alike_is}
 use Rattle.crash_core.specs.Entries.{name_of}
-use Rattle.crash_core.specs.EntryChanges.{EntryChange, IsPlaceOf, Put}
+use Rattle.crash_core.specs.declared.change.EntryChange.{EntryChange}
+use Rattle.crash_core.specs.declared.change.EntryChange.TheVariants.{Put}
+use Rattle.crash_core.specs.EntryChanges.{IsPlaceOf}
 use Rattle.crash_core.specs.EntryLists.{IsAlone, entry_at}
 use Rattle.call_rules.specs.Index.{named}
 use Rattle.dir_records.specs.Form.{HasForm}
@@ -22,7 +24,6 @@ use Rattle.history_seats.specs.Records.{Version}
 use Rattle.history_seats.specs.Views.{GateView, SlotView}
 use Rattle.commit_gate.proofs.Knowing.{guarded_know, shown_stand}
 use Rattle.commit_gate.specs.Commits.{IsDueUnder, tag_of}
-use Rattle.commit_gate.specs.GuardedGates.{change_in_doubt}
 use Rattle.commit_gate.specs.declared.guarded_gate.Closing.{Closing}
 use Rattle.object_slots.specs.NewObjects.{IsNewVersion}
 use Rattle.node_image.specs.References.{IsCurrent}
@@ -33,7 +34,7 @@ use Rattle.call_steps.specs.CreateLaws.{CreatesMayCommit, IsAtPlace, index_of_pl
 use Rattle.call_steps.specs.SlotCommits.{IsSlotCommit}
 use Rattle.object_slots.specs.Makes.{new_contents}
 use Rattle.commit_gate.specs.Gates.{GateValue}
-use Rattle.commit_gate.specs.declared.Doubted.{Doubted}
+use Rattle.commit_gate.specs.declared.DoubtedChange.{DoubtedChange}
 use Rattle.store_model.specs.Calls.{is_commit, reply_of}
 use Rattle.store_model.specs.Machine.{MachineState}
 use Rattle.store_model.specs.Name.{name_cmp}
@@ -68,7 +69,7 @@ module _ {F R E : Type 0} (store : Store) (gate : GateValue F R) (knows : GateVi
   change = Put (index_of_place place) put
 
   tied : IsTied store knows entries gate.counter None
-  tied = subst (λ (d : Option Doubted). IsTied store knows entries gate.counter (change_in_doubt d)) at_place.idle at_place.guarded.tied
+  tied = subst (λ (d : Option DoubtedChange). IsTied store knows entries gate.counter d) at_place.idle at_place.guarded.tied
 
   -- the place is one of the entries
   within : (p : NewPlace) → IsNewPlace entries name p → index_of_place p < length entries

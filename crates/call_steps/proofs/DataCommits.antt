@@ -6,7 +6,9 @@ use Rattle.call_rules.specs.declared.decision.OpenObject.{OpenObject}
 use Rattle.core_laws.specs.GateParts.{IsVersionOf}
 use Rattle.crash_core.proofs.Doubles.{below}
 use Rattle.crash_core.specs.Entries.{name_of}
-use Rattle.crash_core.specs.EntryChanges.{EntryChange, IsNextEntry, Put}
+use Rattle.crash_core.specs.declared.change.EntryChange.{EntryChange}
+use Rattle.crash_core.specs.declared.change.EntryChange.TheVariants.{Put}
+use Rattle.crash_core.specs.EntryChanges.{IsNextEntry}
 use Rattle.dir_records.specs.Form.{HasForm}
 use Rattle.dir_records.specs.declared.entry.DirEntry.{DirEntry}
 use Rattle.core_laws.proofs.DueCommits.{due_commits}
@@ -16,7 +18,7 @@ use Rattle.core_laws.specs.MachineChanges.{IsCallOn}
 use Rattle.history_seats.specs.Numbers.{is_in}
 use Rattle.history_seats.specs.Records.{Version}
 use Rattle.history_seats.specs.Views.{GateView, SlotView}
-use Rattle.commit_gate.specs.Commits.{EndsUnder, IsDueUnder, call_record, tag_of}
+use Rattle.commit_gate.specs.Commits.{EndsUnder, IsDueUnder, file_record, tag_of}
 use Rattle.commit_gate.specs.declared.guarded_gate.Closing.{Closing}
 use Rattle.call_rules.specs.WellOpened.{IsSoundAt}
 use Rattle.call_steps.proofs.AtObject.{entries_after, entry_current, entry_name, entry_there, mapped_here, object_here, sound_here, version_own, version_real}
@@ -87,13 +89,13 @@ module _ {F R E : Type 0} (store : Store) (gate : GateValue F R) (knows : GateVi
   -- Under a tamper scenario: what is the machine's change is a commit of the entries.
   module _ (call : Call) (partial : IsPartial call) (makes : IsCallChange (slice_index_or store.mounted.applications caller.number []) call gate.dir.dir.entries gate.counter change)
       (scenario : TamperScenario) (answered : AreAnswered store scenario knows.all) (on : IsCallOn (replay_at store scenario knows.all).state caller.number call gate.dir.dir.entries change)
-      (reply : Reply) (mark : Mark) (x : IsGivenAt store scenario knows.all (call_record caller.number caller.made call reply mark slot (change_versions v next))) where
-    pub due_or_end : IsDueChange store scenario knows.all (call_record caller.number caller.made call reply mark slot (change_versions v next)) x next
-        ⊎ IsWriteEndAt store scenario knows.all (call_record caller.number caller.made call reply mark slot (change_versions v next))
+      (reply : Reply) (mark : Mark) (x : IsGivenAt store scenario knows.all (file_record caller.number caller.made call reply mark slot (change_versions v next))) where
+    pub due_or_end : IsDueChange store scenario knows.all (file_record caller.number caller.made call reply mark slot (change_versions v next)) x next
+        ⊎ IsWriteEndAt store scenario knows.all (file_record caller.number caller.made call reply mark slot (change_versions v next))
         → IsDueUnder store scenario knows.all caller.number call Done change tag ⊎ EndsUnder store scenario knows.all caller.number caller.made call Done slot
     due_or_end which = elim which [
       | inl due ↦ inl (by_commit (due_commits store scenario knows gate.dir.dir.entries gate.counter caller.number caller.made call reply mark change tag (Some next)
-          (call_record caller.number caller.made call reply mark slot (change_versions v next)) x next refl refl partial answered
+          (file_record caller.number caller.made call reply mark slot (change_versions v next)) x next refl refl partial answered
           (mapped_here store gate knows closing caller handle found slot v at_object scenario answered) (commits_change call makes) on refl due))
       | inr ends ↦ inr (ends_any store scenario knows.all caller.number caller.made call slot reply mark (change_versions v next) ends)
     ]

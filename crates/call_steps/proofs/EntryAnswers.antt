@@ -1,5 +1,6 @@
 -- What an entry's file gave to a call on its object may be told.
 use Rattle.std.proofs.Common.{◌≡◌, ◌<◌, ◌^◌, ℕ, false, List, Option, Some, None, IsTrue, true, refl, sym, ap, ◌∙◌, subst, inl}
+use Rattle.history_seats.specs.Changes.{call_record}
 use Rattle.tee_types.specs.declared.call.Call.{Call}
 use Rattle.tee_types.specs.declared.call.Call.TheVariants.{Info, Open, Read}
 use Rattle.tee_types.specs.declared.reply.Cause.TheVariants.{Fault}
@@ -31,7 +32,6 @@ use Rattle.core_laws.specs.Masked.{GaveVersion, told_taints}
 use Rattle.disk_model.specs.Arms.{Taint}
 use Rattle.core_laws.specs.Stores.{Store, replay_at}
 use Rattle.core_laws.proofs.Mending.{none_some, some_same}
-use Rattle.core_laws.specs.EventAnswers.{unchanged_record}
 use Rattle.call_rules.specs.OpenLaws.{IsOpenedFile}
 use Rattle.commit_gate.specs.Gates.{GateValue}
 use Rattle.commit_gate.specs.CallerSessions.{CallerSession}
@@ -124,7 +124,7 @@ module _ {F R E : Type 0} (store : Store) (gate : GateValue F R) (knows : GateVi
   told = told_record s.number s.made call reply e.file e.generation v
 
   record-is : told ≡ slot_record store knows view s.number s.made call reply
-  record-is = λ i. unchanged_record s.number s.made call reply (Some (record {
+  record-is = λ i. call_record s.number s.made call reply Unchanged (Some (record {
     file = sym file-is i;
     generation = sym may.at.generation i;
     committed = sym given-view i;

@@ -7,8 +7,8 @@ use Rattle.app_totals.specs.declared.numbers.Forecast.{Forecast}
 use Rattle.core_laws.specs.Stores.{Store}
 use Rattle.core_laws.specs.Ties.{IsTied}
 use Rattle.commit_gate.specs.CallerSessions.{CallerSession}
-use Rattle.commit_gate.specs.GuardedGates.{GateInvariant, GuardedGateValue, change_in_doubt}
-use Rattle.commit_gate.specs.declared.Doubted.{Doubted}
+use Rattle.commit_gate.specs.GuardedGates.{GateInvariant, GuardedGateValue}
+use Rattle.commit_gate.specs.declared.DoubtedChange.{DoubtedChange}
 use Rattle.commit_gate.specs.declared.placed_reply.PlacedReply.{PlacedReply}
 use Rattle.call_steps.specs.Foreseen.{AreRisingAt, Forecasts, HasNoOpenDoubt}
 use Rattle.call_steps.specs.GateServed.{ServesAlone}
@@ -21,7 +21,7 @@ names-rise store v guarded = guarded.tied.rising
 pub none-lands : {F R : Type 0} (store : Store) (v : GuardedGateValue F R) → GateInvariant store v.gate v.journal.knows v.closing → v.gate.doubt ≡ None → HasNoOpenDoubt v.journal.knows
 none-lands store v guarded idle =
     let tied : IsTied store v.journal.knows v.gate.dir.dir.entries v.gate.counter None =
-    subst (λ (o : Option Doubted). IsTied store v.journal.knows v.gate.dir.dir.entries v.gate.counter (change_in_doubt o)) idle guarded.tied in
+    subst (λ (o : Option DoubtedChange). IsTied store v.journal.knows v.gate.dir.dir.entries v.gate.counter o) idle guarded.tied in
     tied.doubt
 
 module _ {E F R : Type 0} (of_file : F → FileState) (of_port : R → PortState) (store : Store) (call : Call) (old new : GuardedGateValue F R) (before after : CallerSession E) (reliable : Type 0) (drew draws : ℕ) where

@@ -7,7 +7,7 @@ use Rattle.crash_core.specs.Entries.{name_of}
 use Rattle.history_seats.specs.Changes.{TagVersions}
 use Rattle.history_seats.specs.Records.{HistoryRecord, Version}
 use Rattle.history_seats.specs.Views.{GateView, SlotView}
-use Rattle.commit_gate.specs.Commits.{EndsUnder, call_record, tag_of}
+use Rattle.commit_gate.specs.Commits.{EndsUnder, file_record, tag_of}
 use Rattle.commit_gate.specs.declared.guarded_gate.Closing.{Closing}
 use Rattle.call_steps.proofs.AtObject.{fact_here, mapped_here, name_here, version_real}
 use Rattle.call_steps.specs.AtObject.{IsAtObject}
@@ -35,7 +35,7 @@ same_tag a b is = cc (is)
 
 -- Where the promises end at a write or a truncation, they end however its commit does.
 pub ends_any : (store : Store) (scenario : TamperScenario) (before : List HistoryRecord) (session number : ℕ) (call : Call) (slot : SlotView) (reply : Reply) (mark : Mark) (versions : TagVersions)
-    → IsWriteEndAt store scenario before (call_record session number call reply mark slot versions) → EndsUnder store scenario before session number call Done slot
+    → IsWriteEndAt store scenario before (file_record session number call reply mark slot versions) → EndsUnder store scenario before session number call Done slot
 ends_any store scenario before session number call slot reply mark versions ends = λ told other named ended.
     let g = ends.given in
     let tag : tag_of slot versions ≡ g.tag = same_tag (tag_of slot versions) g.tag g.tagged in
@@ -75,7 +75,7 @@ module _ {F R E : Type 0} (store : Store) (gate : GateValue F R) (knows : GateVi
   abbrev pub given_call : (call : Call) (reply : Reply) (mark : Mark) (versions : TagVersions) (position : ℕ)
       → object_named (replay_at store scenario knows.all).state caller.number call ≡ name_by (replay_at store scenario knows.all).state caller.number handle
       → position ≡ position_by (replay_at store scenario knows.all).state caller.number call → GaveVersion store.keys (store.taints slot.file) v (is_asked v.size position call)
-      → IsGivenAt store scenario knows.all (call_record caller.number caller.made call reply mark slot versions)
+      → IsGivenAt store scenario knows.all (file_record caller.number caller.made call reply mark slot versions)
   given_call call reply mark versions position names place gave = record {
     session = caller.number;
     number = caller.made;

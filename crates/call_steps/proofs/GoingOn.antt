@@ -1,18 +1,24 @@
--- Views of a session that go on.
-use Rattle.std.proofs.Common.{◌≡◌, ℕ, List, [], ◌++◌, refl, sym, ap, ◌∙◌, append-nil, append_assoc, arith}
+-- Views of a session that go on, and what it appends behind them.
+use Rattle.std.proofs.Common.{◌≡◌, ◌+◌, ℕ, List, [], ◌++◌, refl, sym, ap, ◌∙◌, subst, append-nil, append_assoc, arith}
+use Rattle.tee_types.specs.declared.call.Call.{Call}
+use Rattle.store_model.specs.declared.event.Event.TheVariants.{Call as CallEvent}
+use Rattle.store_model.specs.declared.event.Mark.{Mark}
 use Rattle.store_model.specs.History.{count_of}
 use Rattle.store_model.specs.Record.{events_of}
 use Rattle.history_seats.specs.Records.{HistoryRecord}
 use Rattle.history_seats.specs.Views.{PassView, Sight}
 use Rattle.history_seats.proofs.Numbering.{count-append}
+use Rattle.core_laws.specs.Sessions.{Extends}
 use Rattle.core_laws.specs.Stores.{Store}
-use Rattle.commit_gate.specs.CallerSessions.{CallerSession, IsCallerOf}
+use Rattle.commit_gate.specs.CallerSessions.{CallerSession, IsCallerOf, session_value}
+use Rattle.commit_gate.specs.declared.placed_reply.PlacedReply.{PlacedReply}
 use Rattle.commit_gate.proofs.SessionShowing.{some_same}
 use Rattle.call_steps.specs.Seen.{GoesOn}
+use Rattle.call_steps.specs.SessionEvents.{Appends, IsWaiting}
 
 module _ {E : Type 0} (store : Store) where
   -- a session whose entropy may have drawn
-  pub goes-drawn : (s : CallerSession E) (entropy : E) → IsCallerOf store s → GoesOn store s (record s { entropy = entropy })
+  goes-drawn : (s : CallerSession E) (entropy : E) → IsCallerOf store s → GoesOn store s (record s { entropy = entropy })
   goes-drawn s entropy caller = record {
     continues = record {
       was = caller.session.pass;
@@ -26,11 +32,8 @@ module _ {E : Type 0} (store : Store) where
     extends = λ after event place x. x;
   }
 
-  pub goes-same : (s : CallerSession E) → IsCallerOf store s → GoesOn store s s
-  goes-same s caller = goes-drawn s s.entropy caller
-
   -- one behind the other
-  pub goes-then : (a b c : CallerSession E) → b.number ≡ a.number → GoesOn store a b → GoesOn store b c → GoesOn store a c
+  goes-then : (a b c : CallerSession E) → b.number ≡ a.number → GoesOn store a b → GoesOn store b c → GoesOn store a c
   goes-then a b c number first then = record {
     continues = record {
       was = first.continues.was;
@@ -53,3 +56,37 @@ module _ {E : Type 0} (store : Store) where
     where
       met : first.continues.now ≡ then.continues.was
       met = some_same first.continues.now then.continues.was (sym first.continues.has ∙ then.continues.had)
+
+  -- A SESSION WITHOUT AN EVENT MORE
+  -- its entropy may have drawn
+  pub waits-drawn : (s : CallerSession E) (entropy : E) → IsCallerOf store s → IsWaiting store s (record s { entropy = entropy })
+  waits-drawn s entropy caller =
+      record { caller = record { session = caller.session; doubt = caller.doubt }; number = refl; made = refl; goes_on = goes-drawn s entropy caller }
+
+  -- nothing was done
+  pub waits-same : (s : CallerSession E) → IsCallerOf store s → IsWaiting store s s
+  waits-same s caller = waits-drawn s s.entropy caller
+
+  module _ (was between now : CallerSession E) where
+    pub waits-then : IsWaiting store was between → IsWaiting store between now → IsWaiting store was now
+    waits-then first w = record {
+      caller = w.caller;
+      number = w.number ∙ first.number;
+      made = w.made ∙ first.made;
+      goes_on = goes-then was between now first.number first.goes_on w.goes_on;
+    }
+
+    -- an event behind it is the next one of the session as it was
+    pub appends-then : IsWaiting store was between → (call : Call) (answer : PlacedReply) (mark : Mark) → Appends store between now call answer mark → Appends store was now call answer mark
+    appends-then first call answer mark a = record {
+      extends =
+          first.goes_on.extends (session_value now) (CallEvent was.number was.made call answer.reply mark) answer.place
+          (subst (λ (p : ℕ × ℕ). Extends store (session_value between) (session_value now) (CallEvent p.0 p.1 call answer.reply mark) answer.place) (λ i. (first.number i, first.made i)) a.extends);
+      caller = a.caller;
+      made = a.made ∙ ap (λ (n : ℕ). n + 1) first.made;
+    }
+
+  -- the same of a session whose entropy drew before
+  pub appends-drawn : (was now : CallerSession E) (entropy : E) (call : Call) (answer : PlacedReply) (mark : Mark) → Appends store (record was { entropy = entropy }) now call answer mark
+      → Appends store was now call answer mark
+  appends-drawn was now entropy call answer mark a = record { extends = a.extends; caller = a.caller; made = a.made }

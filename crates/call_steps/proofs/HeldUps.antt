@@ -1,5 +1,7 @@
 -- A call that waits for a commit in doubt in vain.
-use Rattle.std.proofs.Common.{◌≡◌, ℕ, true, false, List, Option, IsSome, refl, inr}
+use Rattle.std.proofs.Common.{◌≡◌, ℕ, true, false, List, Option, IsSome, refl, inr, None}
+use Rattle.store_model.specs.declared.event.Mark.TheVariants.{Unchanged}
+use Rattle.history_seats.specs.Changes.{call_record}
 use Rattle.tee_types.specs.declared.call.Call.{Call}
 use Rattle.tee_types.specs.declared.reply.Cause.{Cause}
 use Rattle.tee_types.specs.declared.reply.Reply.TheVariants.{NotAvailable}
@@ -13,7 +15,7 @@ use Rattle.history_seats.specs.Views.{GateView}
 use Rattle.core_laws.specs.TamperScenarios.{TamperScenario}
 use Rattle.core_laws.specs.Stores.{Store, replay_at}
 use Rattle.core_laws.specs.Answered.{AreAnswered}
-use Rattle.commit_gate.specs.JournalCalls.{IsMovedBy, IsToldAlone, alone_record}
+use Rattle.commit_gate.specs.JournalCalls.{IsMovedBy, IsToldAlone}
 use Rattle.commit_gate.specs.CallerSessions.{CallerSession}
 use Rattle.commit_gate.proofs.CallMoves.{unchanged_move}
 use Rattle.commit_gate.specs.Gates.{GateValue}
@@ -52,9 +54,9 @@ module _ {E F R : Type 0} (store : Store) (gate : GateValue F R) (knows : GateVi
         };
       })
 
-  pub held-moves : IsMovedBy store knows (alone_record s.number s.made call (NotAvailable cause)) s
+  pub held-moves : IsMovedBy store knows (call_record s.number s.made call (NotAvailable cause) Unchanged None) s
   held-moves =
-      unchanged_move E store knows (alone_record s.number s.made call (NotAvailable cause)) call (NotAvailable cause) s seen.within refl (λ doubt is. of_card)
+      unchanged_move E store knows (call_record s.number s.made call (NotAvailable cause) Unchanged None) call (NotAvailable cause) s seen.within refl (λ doubt is. of_card)
       (record {
         before = s.state;
         was = record { session = seen.caller.session; doubt = seen.caller.doubt };

@@ -12,7 +12,7 @@ use Rattle.history_seats.specs.Views.{GateView, Sight, SlotView}
 use Rattle.history_seats.proofs.KnownEntries.{calm-stays}
 use Rattle.core_laws.specs.GateParts.{IsVersionOf}
 use Rattle.crash_core.specs.EntryLists.{entry_at}
-use Rattle.commit_gate.specs.declared.Doubted.{Doubted}
+use Rattle.commit_gate.specs.declared.DoubtedChange.{DoubtedChange}
 use Rattle.commit_gate.specs.Gates.{GateValue}
 use Rattle.core_laws.specs.Stores.{Store}
 use Rattle.core_laws.specs.Ties.{IsDoubtTied}
@@ -27,7 +27,7 @@ use Rattle.object_slots.proofs.Contents.{calm_same, gives_seat, seat_same, settl
 use Rattle.object_slots.proofs.KnownOnes.{known_one}
 use Rattle.object_slots.proofs.Learned.{slots_learn}
 use Rattle.commit_gate.specs.declared.guarded_gate.Closing.{Closing}
-use Rattle.commit_gate.specs.GuardedGates.{GateInvariant, change_in_doubt}
+use Rattle.commit_gate.specs.GuardedGates.{GateInvariant}
 use Rattle.call_steps.specs.SlotCatchUp.{IsAtEntry, StillGives, met}
 
 -- its seat, and what the slot shows by it
@@ -120,9 +120,9 @@ module _ (store : Store) (gate : GateView) (slot : SlotValue) (guarded : SlotInv
   seen-settled = none_open slot.doubt (content-seat store slot sees.seat sees.is guarded)
 
 -- a doubt of the gate's, if there is none
-pub none-open : (store : Store) (knows : GateView) (entries : List (Option DirEntry)) (doubt : Option Doubted) → doubt ≡ None → IsDoubtTied store knows entries (change_in_doubt doubt)
+pub none-open : (store : Store) (knows : GateView) (entries : List (Option DirEntry)) (doubt : Option DoubtedChange) → doubt ≡ None → IsDoubtTied store knows entries doubt
     → (number : ℕ) → IsOpenDoubt number knows.decided knows.all → ⊥
-none-open store knows entries doubt none tied = subst (λ (o : Option Doubted). IsDoubtTied store knows entries (change_in_doubt o)) none tied
+none-open store knows entries doubt none tied = subst (λ (o : Option DoubtedChange). IsDoubtTied store knows entries o) none tied
 
 -- A slot of an entry's file that sees the whole history, by which no doubt is open: its view gives the entry's version.
 module _ (store : Store) (gate : GateView) (slot : SlotValue) (guarded : SlotInvariant store slot) (sees : SeesWhole gate slot) (settled : slot.doubt ≡ None) (e : DirEntry) (v : Version)

@@ -10,7 +10,7 @@ use Rattle.core_laws.specs.Listed.{IsTagOf}
 use Rattle.crash_core.proofs.Doubles.{below}
 use Rattle.crash_core.proofs.Names.{alike_is}
 use Rattle.crash_core.specs.Entries.{name_of}
-use Rattle.crash_core.specs.EntryChanges.{Clear, Put}
+use Rattle.crash_core.specs.declared.change.EntryChange.TheVariants.{Clear, Put}
 use Rattle.crash_core.specs.EntryLists.{IsAlone}
 use Rattle.call_rules.specs.Index.{named}
 use Rattle.dir_records.specs.Form.{HasForm}

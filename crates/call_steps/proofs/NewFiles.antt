@@ -21,14 +21,13 @@ use Rattle.history_seats.specs.Settling.{IsOpenDoubt, Pending, calm, dropped}
 use Rattle.history_seats.specs.Versions.{version_of}
 use Rattle.history_seats.specs.Views.{GateView, Sight, SlotView}
 use Rattle.hmac_keys.specs.declared.Keys.{Keys}
-use Rattle.commit_gate.specs.GuardedGates.{change_in_doubt}
 use Rattle.object_slots.specs.KnownFor.{KnowsFor}
 use Rattle.object_slots.specs.GuardedSlots.{IsContentOf, IsSlotOf}
 use Rattle.object_slots.specs.SlotObjects.{IsOfVersion}
 use Rattle.call_steps.proofs.CommittableSlots.{next_object}
 use Rattle.call_steps.specs.CreateLaws.{IsReseated, NewSeatsAreGuarded, NewSlotsAreCommittable, new_seat}
 use Rattle.object_slots.specs.SlotValues.{Holding, IsFree, SlotValue, free, live, made, staged, without_stage}
-use Rattle.commit_gate.specs.declared.Doubted.{Doubted}
+use Rattle.commit_gate.specs.declared.DoubtedChange.{DoubtedChange}
 use Rattle.store_model.specs.Record.{concerns_file}
 use Rattle.core_laws.proofs.Answers.{own_grows}
 use Rattle.core_laws.proofs.Mending.{none_some, some_same}
@@ -147,7 +146,7 @@ module _ (store : Store) (knows : GateView) (entries : List (Option DirEntry)) (
 pub new_seats : (F R : Type 0) → NewSeatsAreGuarded F R
 new_seats F R store gate knows closing slot old generation guarded idle unnamed was is_free settled fits =
     reseated store knows gate.dir.dir.entries gate.counter guarded.journal
-    (subst (λ (d : Option Doubted). IsTied store knows gate.dir.dir.entries gate.counter (change_in_doubt d)) idle guarded.tied) slot old generation unnamed
+    (subst (λ (d : Option DoubtedChange). IsTied store knows gate.dir.dir.entries gate.counter d) idle guarded.tied) slot old generation unnamed
     (subst (IsSlotOf store slot.number slot.file) (sym (some_same old was.seat was.is)) was.own) fits is_free settled
 
 pub new_committable : NewSlotsAreCommittable

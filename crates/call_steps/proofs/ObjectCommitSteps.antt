@@ -1,6 +1,6 @@
 -- A commit that was brought with its slot, once the gate has ended it.
 use Rattle.std.proofs.Common.{None, Option, Some, ap, length, subst, sym, ℕ, ◌∙◌, ◌≡◌}
-use Rattle.crash_core.specs.EntryChanges.{EntryChange}
+use Rattle.crash_core.specs.declared.change.EntryChange.{EntryChange}
 use Rattle.history_seats.specs.Changes.{TagVersions, slot_renewed, with_record}
 use Rattle.history_seats.specs.Views.{GateView, Sight, SlotView}
 use Rattle.commit_gate.specs.Commits.{IsCalm, IsReadyCommit}

@@ -9,11 +9,11 @@ use Rattle.commit_gate.specs.CallerSessions.{CallerSession, IsCallerOf, IsOwnDou
 use Rattle.commit_gate.specs.SessionViews.{SeesAll}
 use Rattle.commit_gate.proofs.SessionDoubts.{doubt-number}
 use Rattle.core_laws.specs.Ties.{IsTied}
-use Rattle.commit_gate.specs.declared.Doubted.{Doubted}
+use Rattle.commit_gate.specs.declared.DoubtedChange.{DoubtedChange}
 use Rattle.commit_gate.specs.Gates.{GateValue}
 use Rattle.commit_gate.specs.declared.guarded_gate.Closing.{Closing}
 use Rattle.commit_gate.specs.Commits.{IsCalm}
-use Rattle.commit_gate.specs.GuardedGates.{GateInvariant, change_in_doubt}
+use Rattle.commit_gate.specs.GuardedGates.{GateInvariant}
 use Rattle.call_steps.specs.Seen.{HasSeen}
 
 none-unless : (o : Option OwnDoubt) → ((d : OwnDoubt) → o ≡ Some d → ⊥) → o ≡ None
@@ -40,7 +40,7 @@ module _ {F R : Type 0} (store : Store) (gate : GateValue F R) (knows : GateView
   none-open : (commit : ℕ) → IsOpenDoubt commit knows.decided knows.all → ⊥
   none-open =
       let tied : IsTied store knows gate.dir.dir.entries gate.counter None =
-      subst (λ (o : Option Doubted). IsTied store knows gate.dir.dir.entries gate.counter (change_in_doubt o)) idle guarded.tied in
+      subst (λ (o : Option DoubtedChange). IsTied store knows gate.dir.dir.entries gate.counter o) idle guarded.tied in
       tied.doubt
 
   pub own-none : {E : Type 0} (s : CallerSession E) → IsCallerOf store s → SeesAll knows s.pass → s.doubt ≡ None

@@ -4,7 +4,7 @@ use Rattle.tee_types.specs.declared.reply.Cause.{Cause}
 use Rattle.commit_gate.specs.View.{DirView}
 use Rattle.dir_records.specs.declared.entry.DirEntry.{DirEntry}
 use Rattle.history_seats.specs.Views.{GateView}
-use Rattle.commit_gate.specs.declared.Doubted.{Doubted}
+use Rattle.commit_gate.specs.declared.DoubtedChange.{DoubtedChange}
 use Rattle.commit_gate.specs.declared.Resolved.{Resolved}
 use Rattle.commit_gate.specs.declared.Resolved.TheVariants.{Landed, Dropped}
 use Rattle.commit_gate.specs.Gates.{gate_sides}
@@ -26,12 +26,12 @@ same_view (Ok (Landed n)) view = refl
 same_view (Ok (Dropped n)) view = refl
 same_view (Err cause) view = refl
 
-doubt_is : (d : Doubted) (old new : Option Doubted) (result : Result Resolved Cause) → old ≡ Some d → LeavesDoubt old new result → new ≡ doubt_resolved d result
+doubt_is : (d : DoubtedChange) (old new : Option DoubtedChange) (result : Result Resolved Cause) → old ≡ Some d → LeavesDoubt old new result → new ≡ doubt_resolved d result
 doubt_is d old new (Ok how) in_doubt left = left
 doubt_is d old new (Err cause) in_doubt left = left ∙ in_doubt
 
 -- the holds are apart from the entries behind it, too
-still_held : (old new : Sides) (d : Doubted) (before after : List (Option ℕ)) (result : Result Resolved Cause) → AreHolds old.dir.entries before → Resolves old new d result
+still_held : (old new : Sides) (d : DoubtedChange) (before after : List (Option ℕ)) (result : Result Resolved Cause) → AreHolds old.dir.entries before → Resolves old new d result
     → ResolvesHolds d result before after → AreHolds new.dir.entries after
 still_held old new d before after (Ok (Landed n)) held is ends =
     subst (λ (l : List (Option DirEntry)). AreHolds l after) (sym is.entries) (holds_after old.dir.entries before after d.change held ends)
@@ -44,10 +44,10 @@ pub resolved_doubts_are_steps : (F R : Type 0) → ResolvedDoubtsAreSteps F R
 resolved_doubts_are_steps F R of_file of_port store scenario handed old new card d result p answered r =
     let was : Sides = gate_sides of_file of_port old.gate in
     let now : Sides = gate_sides of_file of_port new.gate in
-    let gate : IsGateOf store was (Some d) old.gate.holds card = subst (λ (o : Option Doubted). IsGateOf store was o old.gate.holds card) r.in_doubt p.gate in
+    let gate : IsGateOf store was (Some d) old.gate.holds card = subst (λ (o : Option DoubtedChange). IsGateOf store was o old.gate.holds card) r.in_doubt p.gate in
     let read : IsDoubtRead store scenario old.journal.knows was.dir.entries d =
-    subst (λ (o : Option Doubted). AreDoubtsRead store scenario old.journal.knows was.dir.entries o) r.in_doubt (tied_under of_file of_port store scenario old card p answered).doubts in
-    subst (λ (x : Option Doubted × Option Doubted × GateView). StepsTo store scenario handed (resting_part store scenario was x.0 old.gate.holds card old.journal.knows) now x.1 new.gate.holds x.2)
+    subst (λ (o : Option DoubtedChange). AreDoubtsRead store scenario old.journal.knows was.dir.entries o) r.in_doubt (tied_under of_file of_port store scenario old card p answered).doubts in
+    subst (λ (x : Option DoubtedChange × Option DoubtedChange × GateView). StepsTo store scenario handed (resting_part store scenario was x.0 old.gate.holds card old.journal.knows) now x.1 new.gate.holds x.2)
     (λ i. (sym r.in_doubt i, sym (doubt_is d old.gate.doubt new.gate.doubt result r.in_doubt r.doubt) i, sym (r.knows ∙ same_view result old.journal.knows) i))
     (resolves_are_steps store scenario handed was now d result old.gate.holds new.gate.holds card old.journal.knows gate read
     (record {

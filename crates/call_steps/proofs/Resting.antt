@@ -1,35 +1,22 @@
 -- A gate behind its lock is the gate's part, at rest.
-use Rattle.std.proofs.Common.{◌≡◌, Option, Some, None, option_map, refl, subst}
 use Rattle.disk_model.specs.State.{FileState}
 use Rattle.rpmb_card.specs.Card.{CardState}
 use Rattle.rpmb_card.specs.Port.{PortState}
 use Rattle.core_laws.specs.Answered.{AreAnswered}
 use Rattle.core_laws.specs.TamperScenarios.{TamperScenario}
 use Rattle.core_laws.specs.Stores.{Store}
-use Rattle.core_laws.specs.Ties.{DoubtedChange, IsTied}
-use Rattle.commit_gate.specs.declared.Doubted.{Doubted}
 use Rattle.commit_gate.specs.Gates.{gate_sides}
 use Rattle.commit_gate.specs.Readings.{IsTiedUnder}
-use Rattle.commit_gate.specs.CoreTies.{doubted_change}
 use Rattle.commit_gate.proofs.RestingGates.{resting_gates_hold}
 use Rattle.commit_gate.proofs.Ties.{ties_tell}
-use Rattle.commit_gate.specs.GuardedGates.{GuardedGateValue, change_in_doubt}
+use Rattle.commit_gate.specs.GuardedGates.{GuardedGateValue}
 use Rattle.call_steps.specs.ServiceCores.{IsPart, GuardedGatesRest}
-
--- the commit in doubt, in the words of the gate's part
-doubt_words : (doubt : Option Doubted) → change_in_doubt doubt ≡ option_map doubted_change doubt
-doubt_words None = refl
-doubt_words (Some d) = refl
 
 module _ {F R : Type 0} (of_file : F → FileState) (of_port : R → PortState) (store : Store) (scenario : TamperScenario) (g : GuardedGateValue F R) (card : CardState)
     (p : IsPart of_file of_port store g card) (answered : AreAnswered store scenario g.journal.knows.all) where
-  tied_words : IsTied store g.journal.knows g.gate.dir.dir.entries g.gate.counter (option_map doubted_change g.gate.doubt)
-  tied_words =
-      subst (λ (d : Option DoubtedChange). IsTied store g.journal.knows g.gate.dir.dir.entries g.gate.counter d) (doubt_words g.gate.doubt) p.guarded.tied
-
   pub tied_under : IsTiedUnder store scenario g.journal.knows g.gate.dir.dir.entries g.gate.counter g.gate.doubt
   tied_under =
-      ties_tell store scenario g.journal.knows g.gate.dir.dir.entries g.gate.counter g.gate.doubt p.guarded.journal.mounted tied_words answered
+      ties_tell store scenario g.journal.knows g.gate.dir.dir.entries g.gate.counter g.gate.doubt p.guarded.journal.mounted p.guarded.tied answered
       (p.guarded.journal.in_step scenario answered)
 
 pub guarded_gates_rest : (F R : Type 0) → GuardedGatesRest F R

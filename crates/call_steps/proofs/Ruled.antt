@@ -11,11 +11,10 @@ use Rattle.store_model.specs.Machine.{MachineState, Session}
 use Rattle.store_model.specs.Record.{fault_in_reply}
 use Rattle.store_model.specs.ReplayState.{is_undone}
 use Rattle.dir_records.specs.declared.entry.DirEntry.{DirEntry}
-use Rattle.history_seats.specs.Changes.{with_record}
+use Rattle.history_seats.specs.Changes.{with_record, call_record}
 use Rattle.history_seats.specs.Views.{GateView}
 use Rattle.core_laws.specs.Sessions.{Extends, SessionValue}
 use Rattle.core_laws.specs.Stores.{Store}
-use Rattle.commit_gate.specs.JournalCalls.{alone_record}
 use Rattle.commit_gate.specs.CallerSessions.{CallerSession, IsCallerOf, session_value}
 use Rattle.commit_gate.specs.SessionViews.{pass_shown}
 use Rattle.call_rules.specs.Matches.{Matches}
@@ -71,10 +70,11 @@ extends-moved store s state after event place x = record {
 pub moved-served : {E F R : Type 0} (store : Store) (call : Call) (answer : PlacedReply) (old new : GuardedGateValue F R) (s after : CallerSession E) (state : Session)
     → IsServed store call answer old new (record s { state = state }) after → IsServed store call answer old new s after
 moved-served store call answer old new s after state x = record {
-  caller = x.caller;
-  extends = extends-moved store s state (session_value after) (CallEvent s.number s.made call answer.reply Unchanged) answer.place x.extends;
-  number = x.number;
-  made = x.made;
+  appends = record {
+    extends = extends-moved store s state (session_value after) (CallEvent s.number s.made call answer.reply Unchanged) answer.place x.appends.extends;
+    caller = x.appends.caller;
+    made = x.appends.made;
+  };
   place = x.place;
   knows = x.knows;
   spare = x.spare;
@@ -103,13 +103,10 @@ same-table old new same = subst (λ (g : GateValue _ _). g ≡ record old { open
 pub quiet-served : {E F R : Type 0} (store : Store) (call : Call) (answer : PlacedReply) (old new : GuardedGateValue F R) (s after : CallerSession E) → LeavesHandles call answer.reply
     → IsCallerOf store after → Extends store (session_value s) (session_value after) (CallEvent s.number s.made call answer.reply Unchanged) answer.place
     → after ≡ record s { pass = pass_shown new.journal.knows s.pass; made = s.made + 1 } → answer.place ≡ length old.journal.knows.all
-    → new.journal.knows ≡ with_record (alone_record s.number s.made call answer.reply) old.journal.knows → old.journal.spare ≤ new.journal.spare + 1 → new.gate ≡ old.gate
+    → new.journal.knows ≡ with_record (call_record s.number s.made call answer.reply Unchanged None) old.journal.knows → old.journal.spare ≤ new.journal.spare + 1 → new.gate ≡ old.gate
     → new.closing ≡ old.closing → IsServed store call answer old new s after
 quiet-served store call answer old new s after leaves caller extends session place knows spare gate closing = record {
-  caller = caller;
-  extends = extends;
-  number = ap (λ (x : CallerSession _). x.number) session;
-  made = ap (λ (x : CallerSession _). x.made) session;
+  appends = record { extends = extends; caller = caller; made = ap (λ (x : CallerSession _). x.made) session };
   place = place;
   knows = knows;
   spare = spare;

@@ -26,9 +26,7 @@ module _ {F R E : Type 0} (store : Store) (old new : GuardedGateValue F R) (s no
   answer-served own copied at extends whole moved knows spare gate notes closing =
       subst (λ (r : Reply). IsServed store old new s now file call (record { place = place; reply = r })) (sym copied) (record {
         place = at;
-        extends = extends;
-        whole = whole;
-        made = ap (λ (x : CallerSession E). x.made) moved;
+        appends = record { extends = extends; caller = whole; made = ap (λ (x : CallerSession E). x.made) moved };
         last = slot_record store old.journal.knows view s.number s.made call reply;
         event = refl;
         tagged = ap Some own;

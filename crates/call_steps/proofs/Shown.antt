@@ -14,7 +14,9 @@ use Rattle.history_seats.specs.Numbers.{is_in}
 use Rattle.history_seats.specs.Records.{Version}
 use Rattle.history_seats.specs.Views.{GateView}
 use Rattle.crash_core.specs.CoreState.{IsTrusted}
-use Rattle.crash_core.specs.EntryChanges.{Clear, EntryChange, IsChange, Put}
+use Rattle.crash_core.specs.declared.change.EntryChange.{EntryChange}
+use Rattle.crash_core.specs.declared.change.EntryChange.TheVariants.{Clear, Put}
+use Rattle.crash_core.specs.EntryChanges.{IsChange}
 use Rattle.crash_core.specs.Mounting.{Held}
 use Rattle.crash_core.proofs.Lists.{set_here}
 use Rattle.core_laws.specs.GateLaws.{HandedShows}

@@ -4,7 +4,8 @@ use Rattle.std.proofs.lemmas.Bool.{cond-true, eq-eqb}
 use Rattle.commit_gate.specs.Journals.{IsJournal}
 use Rattle.core_laws.specs.Listed.{IsTagOfChange}
 use Rattle.core_laws.specs.SlotLaws.{IsNewlyKnown}
-use Rattle.crash_core.specs.EntryChanges.{Clear, EntryChange, Put}
+use Rattle.crash_core.specs.declared.change.EntryChange.{EntryChange}
+use Rattle.crash_core.specs.declared.change.EntryChange.TheVariants.{Clear, Put}
 use Rattle.dir_records.specs.declared.entry.DirEntry.{DirEntry}
 use Rattle.disk_model.specs.State.{FileState}
 use Rattle.core_laws.proofs.CommitTags.{commit_tagged}
@@ -27,9 +28,8 @@ use Rattle.history_seats.specs.Tags.{HasRightTag}
 use Rattle.history_seats.specs.Versions.{version_of}
 use Rattle.history_seats.specs.Views.{GateView, Sight, SlotView}
 use Rattle.commit_gate.proofs.ReadyCommits.{unmade_tag}
-use Rattle.commit_gate.specs.Commits.{IsDueUnder, IsReadyCommit, call_record, made_versions, tag_of, unmade_versions}
+use Rattle.commit_gate.specs.Commits.{IsDueUnder, IsReadyCommit, file_record, made_versions, tag_of, unmade_versions}
 use Rattle.commit_gate.specs.GateEnds.{IsCommitEnd, end_event, mark_told, reply_told, versions_told}
-use Rattle.commit_gate.specs.GuardedGates.{change_in_doubt}
 use Rattle.object_slots.proofs.OwnRecords.{doubtful_keep, made_keep, own_after}
 use Rattle.object_slots.specs.KnownFor.{own_version}
 use Rattle.object_slots.specs.GuardedSlots.{IsContentOf, SlotInvariant, IsSlotOf}
@@ -39,7 +39,7 @@ use Rattle.call_steps.specs.StageEnds.{slot_behind}
 use Rattle.object_slots.specs.SlotValues.{SlotValue, with_stage, without_stage}
 use Rattle.commit_gate.specs.declared.CommitEnd.{CommitEnd}
 use Rattle.commit_gate.specs.declared.CommitEnd.TheVariants.{Doubtful as DoubtfulEnd, Dropped, Made as MadeEnd, Spent}
-use Rattle.commit_gate.specs.declared.Doubted.{Doubted}
+use Rattle.commit_gate.specs.declared.DoubtedChange.{DoubtedChange}
 use Rattle.store_model.specs.Record.{Tag, fault_in_reply}
 use Rattle.store_model.specs.declared.event.Event.TheVariants.{Call as CallEvent}
 use Rattle.store_model.specs.declared.event.Mark.TheVariants.{Doubtful, Made, Unchanged}
@@ -104,7 +104,7 @@ module _ (store : Store) (knows : GateView) (entries : List (Option DirEntry)) (
     }
 
     unmade_end : (told : Reply) → IsUnmade (replay_at store scenario knows.all).counter told → fault_in_reply told ≡ None
-        → IsLegalAt store scenario knows.all (call_record session number call told Unchanged slot (unmade_versions versions))
+        → IsLegalAt store scenario knows.all (file_record session number call told Unchanged slot (unmade_versions versions))
     unmade_end told unmade none =
         unmade_legal store scenario knows.all session number call told (Some (tag_of slot (unmade_versions versions))) known due.due unmade
         (commit_tagged store scenario knows entries counter None tied session (tag_of slot versions) told Unchanged none call change versions.doubted committable_under)
@@ -113,17 +113,17 @@ module _ (store : Store) (knows : GateView) (entries : List (Option DirEntry)) (
     next_number n is low = subst (λ (k : ℕ). k < 2 ^ 32) is low
 
     pub end_legal : (end : CommitEnd) → IsCommitEnd counter end
-        → IsLegalAt store scenario knows.all (call_record session number call (reply_told end reply) (mark_told end) slot (versions_told end versions))
+        → IsLegalAt store scenario knows.all (file_record session number call (reply_told end reply) (mark_told end) slot (versions_told end versions))
     end_legal (MadeEnd n) at_end =
-        subst (λ (k : ℕ). IsLegalAt store scenario knows.all (call_record session number call reply (Made k) slot (made_versions versions))) (sym at_end.0)
+        subst (λ (k : ℕ). IsLegalAt store scenario knows.all (file_record session number call reply (Made k) slot (made_versions versions))) (sym at_end.0)
         ((commits_legal store scenario knows entries counter None tied session number call change named known (next_number n at_end.0 at_end.1)).made made_under refl reply due.replied)
     end_legal (DoubtfulEnd n cause) at_end =
-        subst (λ (k : ℕ). IsLegalAt store scenario knows.all (call_record session number call (NotAvailable cause) (Doubtful k) slot versions)) (sym at_end.0)
+        subst (λ (k : ℕ). IsLegalAt store scenario knows.all (file_record session number call (NotAvailable cause) (Doubtful k) slot versions)) (sym at_end.0)
         ((commits_legal store scenario knows entries counter None tied session number call change (tag_of slot versions) known (next_number n at_end.0 at_end.1)).doubtful committable_under ready.given cause at_end.2)
     end_legal (Dropped cause) none = unmade_end (NotAvailable cause) tt none
     end_legal Spent last = unmade_end (CounterSpent 4294967295) (refl, tied.counter scenario answered ∙ last) refl
 
-  pub end_right : (end : CommitEnd) → HasRightTag store.mounted knows.all (call_record session number call (reply_told end reply) (mark_told end) slot (versions_told end versions))
+  pub end_right : (end : CommitEnd) → HasRightTag store.mounted knows.all (file_record session number call (reply_told end reply) (mark_told end) slot (versions_told end versions))
   end_right (MadeEnd n) = (commits_right store knows entries counter None session number call reply n named change tied).made made_commit refl
   end_right (DoubtfulEnd n cause) =
       (commits_right store knows entries counter None session number call (NotAvailable cause) n (tag_of slot versions) change tied).doubtful ready.commit ready.given
@@ -141,7 +141,7 @@ newly_left session number call reply versions Spent v known = absurd known
 pub commits_end : (F R E : Type 0) → CommitsEndSlots F R E
 commits_end F R E store gate knows closing caller call reply change slot seat versions end guarded idle calm commit committable sees at_end =
     let tied : IsTied store knows gate.dir.dir.entries gate.counter None =
-    subst (λ (d : Option Doubted). IsTied store knows gate.dir.dir.entries gate.counter (change_in_doubt d)) idle guarded.tied in
+    subst (λ (d : Option DoubtedChange). IsTied store knows gate.dir.dir.entries gate.counter d) idle guarded.tied in
     let own : IsSlotOf store slot.number slot.file seat = own_seat store slot seat committable.before in
     record {
       knows = knows;
@@ -158,7 +158,7 @@ commits_end F R E store gate knows closing caller call reply change slot seat ve
         fits = sees.fits;
         on_a_call = refl;
         right =
-            subst (λ (m : Mounted). HasRightTag m knows.all (call_record caller.number caller.made call (reply_told end reply) (mark_told end) seat.knows (versions_told end versions))) (sym own.mounted)
+            subst (λ (m : Mounted). HasRightTag m knows.all (file_record caller.number caller.made call (reply_told end reply) (mark_told end) seat.knows (versions_told end versions))) (sym own.mounted)
             (end_right store knows gate.dir.dir.entries gate.counter caller.number caller.made call reply change seat.knows versions guarded.journal tied calm.caller.session.known commit.ready end);
         real = λ v known. committable.real v (newly_left caller.number caller.made call reply versions end v known);
         stands = λ honest v known. committable.stands honest v (newly_left caller.number caller.made call reply versions end v known);

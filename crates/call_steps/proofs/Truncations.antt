@@ -5,7 +5,7 @@ use Rattle.std.specs.List.{list_any}
 use Rattle.commit_gate.specs.CallerSessions.{CallerSession}
 use Rattle.call_rules.specs.declared.decision.OpenObject.{OpenObject}
 use Rattle.crash_core.specs.Entries.{name_of}
-use Rattle.crash_core.specs.EntryChanges.{Put}
+use Rattle.crash_core.specs.declared.change.EntryChange.TheVariants.{Put}
 use Rattle.dir_records.specs.declared.entry.DirEntry.{DirEntry}
 use Rattle.disk_model.specs.State.{FileState}
 use Rattle.core_laws.specs.CallChanges.{IsCallChange}
@@ -14,7 +14,7 @@ use Rattle.history_seats.specs.Changes.{TagVersions}
 use Rattle.history_seats.specs.Numbers.{is_in}
 use Rattle.history_seats.specs.Records.{Version}
 use Rattle.history_seats.specs.Views.{GateView, SlotView}
-use Rattle.commit_gate.specs.Commits.{EndsUnder, IsDueUnder, call_record, tag_of}
+use Rattle.commit_gate.specs.Commits.{EndsUnder, IsDueUnder, file_record, tag_of}
 use Rattle.commit_gate.specs.declared.guarded_gate.Closing.{Closing}
 use Rattle.object_slots.specs.GuardedStages.{IsMadeOverGiven, VersionChange, resize_of}
 use Rattle.call_rules.specs.WellOpened.{IsSoundAt}
@@ -87,14 +87,14 @@ module _ {F R E : Type 0} (store : Store) (gate : GateValue F R) (knows : GateVi
     on_cut : IsCallOn m caller.number cut gate.dir.dir.entries (Put found.held.index (changed_entry e next))
     on_cut = (at_hand store gate knows closing caller handle found slot v at_object scenario answered, refl)
 
-    abbrev given : IsGivenAt store scenario knows.all (call_record caller.number caller.made cut Done (Made 0) slot versions)
+    abbrev given : IsGivenAt store scenario knows.all (file_record caller.number caller.made cut Done (Made 0) slot versions)
     given = given_call store gate knows closing caller handle found slot v at_object scenario answered cut Done (Made 0) versions 0 refl refl over.0
 
     due_cut : IsDueUnder store scenario knows.all caller.number cut Done (Put found.held.index (changed_entry e next)) (tag_of slot versions)
         ⊎ EndsUnder store scenario knows.all caller.number caller.made cut Done slot
     due_cut =
         due_or_end store gate knows closing caller handle found slot v at_object next staged.follows.app staged.follows.attributes staged.real staged.current few cut tt makes scenario answered on_cut Done (Made 0) given
-        (truncations_due store scenario knows.all (call_record caller.number caller.made cut Done (Made 0) slot versions) given (version_real store gate knows closing caller handle found slot v at_object) refl
+        (truncations_due store scenario knows.all (file_record caller.number caller.made cut Done (Made 0) slot versions) given (version_real store gate knows closing caller handle found slot v at_object) refl
         (mapped_here store gate knows closing caller handle found slot v at_object scenario answered) next handle refl
         (record { handle = found.handle; live = live }, may.right, other, fits) over.1)
 

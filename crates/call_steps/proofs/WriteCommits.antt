@@ -5,7 +5,7 @@ use Rattle.std.specs.List.{list_any}
 use Rattle.commit_gate.specs.CallerSessions.{CallerSession}
 use Rattle.call_rules.specs.declared.decision.OpenObject.{OpenObject}
 use Rattle.crash_core.specs.Entries.{name_of}
-use Rattle.crash_core.specs.EntryChanges.{Put}
+use Rattle.crash_core.specs.declared.change.EntryChange.TheVariants.{Put}
 use Rattle.dir_records.specs.declared.entry.DirEntry.{DirEntry}
 use Rattle.disk_model.specs.State.{FileState}
 use Rattle.core_laws.specs.CallChanges.{IsCallChange}
@@ -14,7 +14,7 @@ use Rattle.history_seats.specs.Changes.{TagVersions}
 use Rattle.history_seats.specs.Numbers.{is_in}
 use Rattle.history_seats.specs.Records.{Version}
 use Rattle.history_seats.specs.Views.{GateView, SlotView}
-use Rattle.commit_gate.specs.Commits.{EndsUnder, IsDueUnder, call_record, tag_of}
+use Rattle.commit_gate.specs.Commits.{EndsUnder, IsDueUnder, file_record, tag_of}
 use Rattle.commit_gate.specs.declared.guarded_gate.Closing.{Closing}
 use Rattle.object_slots.specs.GuardedStages.{write_of}
 use Rattle.call_rules.specs.WellOpened.{IsSoundAt}
@@ -96,7 +96,7 @@ module _ {F R E : Type 0} (store : Store) (gate : GateValue F R) (knows : GateVi
       staged.follows.size ∙ ap (λ (n : ℕ). max n (found.handle.position + length bytes)) size_own,
     )
 
-    abbrev given : IsGivenAt store scenario knows.all (call_record caller.number caller.made write Done (Made 0) slot versions)
+    abbrev given : IsGivenAt store scenario knows.all (file_record caller.number caller.made write Done (Made 0) slot versions)
     given =
         given_call store gate knows closing caller handle found slot v at_object scenario answered write Done (Made 0) versions found.handle.position refl
         (sym (ap position_of live)) over.0
@@ -105,7 +105,7 @@ module _ {F R E : Type 0} (store : Store) (gate : GateValue F R) (knows : GateVi
         ⊎ EndsUnder store scenario knows.all caller.number caller.made write Done slot
     due_write =
         due_or_end store gate knows closing caller handle found slot v at_object next staged.follows.app staged.follows.attributes staged.real staged.current few write tt makes scenario answered on_write Done (Made 0) given
-        (writes_due store scenario knows.all (call_record caller.number caller.made write Done (Made 0) slot versions) given (version_real store gate knows closing caller handle found slot v at_object) refl
+        (writes_due store scenario knows.all (file_record caller.number caller.made write Done (Made 0) slot versions) given (version_real store gate knows closing caller handle found slot v at_object) refl
         (mapped_here store gate knows closing caller handle found slot v at_object scenario answered) next handle bytes refl
         (record { handle = found.handle; live = live }, may.right, may.some, low, fits) staged.follows.size over.1)
 

@@ -6,20 +6,18 @@ use Rattle.store_model.specs.declared.event.Mark.TheVariants.{Unchanged}
 use Rattle.store_model.specs.Record.{file_of}
 use Rattle.history_seats.specs.Changes.{with_record}
 use Rattle.history_seats.specs.Records.{HistoryRecord}
-use Rattle.core_laws.specs.Sessions.{Extends}
 use Rattle.core_laws.specs.Stores.{Store}
-use Rattle.commit_gate.specs.CallerSessions.{CallerSession, IsCallerOf, session_value}
+use Rattle.commit_gate.specs.CallerSessions.{CallerSession}
 use Rattle.open_table.specs.HandleChanges.{NotesReply}
 use Rattle.commit_gate.specs.GuardedGates.{GuardedGateValue}
 use Rattle.commit_gate.specs.declared.placed_reply.PlacedReply.{PlacedReply}
+use Rattle.call_steps.specs.SessionEvents.{Appends}
 
 -- The event has the reply and the place that are told, changed nothing, and is tagged with the object's file. The gate has no commit in doubt,
 -- as before: of it at most the table of open handles changed, as call and reply say.
 pub record IsServed {F R E : Type 0} (store : Store) (old new : GuardedGateValue F R) (was now : CallerSession E) (file : ℕ) (call : Call) (answer : PlacedReply) : Type 0 where
   pub place : answer.place ≡ length old.journal.knows.all
-  pub extends : Extends store (session_value was) (session_value now) (CallEvent was.number was.made call answer.reply Unchanged) answer.place
-  pub whole : IsCallerOf store now
-  pub made : now.made ≡ was.made + 1
+  pub appends : Appends store was now call answer Unchanged
   pub last : HistoryRecord
   pub event : last.event ≡ CallEvent was.number was.made call answer.reply Unchanged
   pub tagged : file_of last ≡ Some file

@@ -13,7 +13,6 @@ use Rattle.core_laws.specs.GateSteps.{Handed}
 use Rattle.core_laws.specs.Answered.{AreAnswered}
 use Rattle.core_laws.specs.TamperScenarios.{TamperScenario}
 use Rattle.core_laws.specs.Stores.{Store, replay_at}
-use Rattle.commit_gate.specs.Changes.{change_of}
 use Rattle.commit_gate.specs.declared.EntryChange.{EntryChange}
 use Rattle.object_slots.specs.SlotValues.{SlotValue}
 use Rattle.commit_gate.specs.CallerSessions.{CallerSession}
@@ -33,7 +32,7 @@ module _ {F R E : Type 0} (of_file : F → FileState) (of_port : R → PortState
   pub record BringsCommit (store : Store) (old new : GuardedGateValue F R) (slot : SlotValue) (was now : CallerSession E) (call : Call) (own : Reply) (change : EntryChange) (versions : TagVersions)
       (Reliable : Type 0) (drew draws : ℕ) (answer : PlacedReply) : Type 0 where
     pub idle : old.gate.doubt ≡ None
-    pub committable : IsCommittable store old.gate old.journal.knows slot was call own (change_of change) versions
+    pub committable : IsCommittable store old.gate old.journal.knows slot was call own change versions
     pub committed : IsCommitted of_file of_port store old new slot.number was now call own change Reliable drew draws answer
     -- what holds of every file
     pub sound : Sound (of_file new.gate.dir.file)

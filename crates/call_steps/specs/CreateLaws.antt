@@ -6,7 +6,7 @@ use Rattle.call_rules.specs.Places.{IsNewPlace}
 use Rattle.call_rules.specs.declared.decision.NewPlace.{NewPlace}
 use Rattle.call_rules.specs.declared.decision.NewPlace.TheVariants.{Adds, Replaces}
 use Rattle.crash_core.specs.DirectoryLaws.{AreEntries}
-use Rattle.crash_core.specs.EntryChanges.{Put}
+use Rattle.crash_core.specs.declared.change.EntryChange.TheVariants.{Put}
 use Rattle.crash_core.specs.EntryLists.{IsUnnamed}
 use Rattle.call_rules.specs.Index.{named}
 use Rattle.dir_records.specs.declared.entry.DirEntry.{DirEntry}

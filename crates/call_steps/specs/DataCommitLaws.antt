@@ -2,7 +2,7 @@
 use Rattle.std.specs.Prelude.{List, Option, false, length, true, ℕ, ◌+◌, ◌==◌, ◌≡◌, ◌≤◌}
 use Rattle.commit_gate.specs.CallerSessions.{CallerSession}
 use Rattle.call_rules.specs.declared.decision.OpenObject.{OpenObject}
-use Rattle.crash_core.specs.EntryChanges.{Put}
+use Rattle.crash_core.specs.declared.change.EntryChange.TheVariants.{Put}
 use Rattle.disk_model.specs.State.{FileState}
 use Rattle.history_seats.specs.Records.{Version}
 use Rattle.history_seats.specs.Views.{GateView, SlotView}

@@ -2,8 +2,7 @@
 use Rattle.std.specs.Prelude.{IsTrue, List, None, slice_index_or, ℕ, ◌-◌, ◌≡◌, ◌⊎◌}
 use Rattle.disk_model.specs.Calls.{GoesOn}
 use Rattle.disk_model.specs.Faults.{Rose}
-use Rattle.disk_model.specs.State.{FileState}
-use Rattle.object_slots.specs.SlotInside.{no_file}
+use Rattle.disk_model.specs.State.{FileState, no_file}
 use Rattle.object_slots.specs.SlotValues.{SlotValue, free}
 use Rattle.rpmb_card.specs.Card.{CardState}
 use Rattle.rpmb_card.specs.Port.{PortState}

@@ -6,16 +6,13 @@ use Rattle.tee_types.specs.declared.call.Call.{Call}
 use Rattle.tee_types.specs.declared.reply.Cause.{Cause}
 use Rattle.tee_types.specs.declared.reply.Reply.{Reply}
 use Rattle.tee_types.specs.declared.reply.Reply.TheVariants.{NotAvailable}
-use Rattle.store_model.specs.declared.event.Event.TheVariants.{Call as CallEvent}
 use Rattle.store_model.specs.declared.event.Mark.TheVariants.{Unchanged}
 use Rattle.store_model.specs.Calls.{reply_of}
 use Rattle.store_model.specs.Files.{is_misuse}
 use Rattle.store_model.specs.Machine.{MachineState, Session}
-use Rattle.history_seats.specs.Changes.{with_record}
+use Rattle.history_seats.specs.Changes.{with_record, call_record}
 use Rattle.core_laws.specs.Stores.{Store}
-use Rattle.core_laws.specs.Sessions.{Extends}
-use Rattle.commit_gate.specs.JournalCalls.{alone_record}
-use Rattle.commit_gate.specs.CallerSessions.{CallerSession, IsCallerOf, session_value}
+use Rattle.commit_gate.specs.CallerSessions.{CallerSession}
 use Rattle.open_table.specs.HandleChanges.{NotesReply}
 use Rattle.call_rules.specs.Matches.{Matches}
 use Rattle.call_rules.specs.Plain.{IsPlain}
@@ -23,17 +20,14 @@ use Rattle.commit_gate.specs.Commits.{IsCalm}
 use Rattle.commit_gate.specs.GuardedGates.{GuardedGateValue}
 use Rattle.commit_gate.specs.declared.placed_reply.PlacedReply.{PlacedReply}
 use Rattle.call_steps.specs.Resolved.{IsSettled, StaysInDoubt, WasResolved}
-use Rattle.call_steps.specs.Seen.{GoesOn}
+use Rattle.call_steps.specs.SessionEvents.{Appends, IsWaiting}
 
 -- The call was appended with its reply, as the last event, and the session is the store's behind it. Of the gate at most the table of open
 -- handles changed, as call and reply say.
 pub record IsServed {E F R : Type 0} (store : Store) (call : Call) (answer : PlacedReply) (old new : GuardedGateValue F R) (before after : CallerSession E) : Type 0 where
-  pub caller : IsCallerOf store after
-  pub extends : Extends store (session_value before) (session_value after) (CallEvent before.number before.made call answer.reply Unchanged) answer.place
-  pub number : after.number ≡ before.number
-  pub made : after.made ≡ before.made + 1
+  pub appends : Appends store before after call answer Unchanged
   pub place : answer.place ≡ length old.journal.knows.all
-  pub knows : new.journal.knows ≡ with_record (alone_record before.number before.made call answer.reply) old.journal.knows
+  pub knows : new.journal.knows ≡ with_record (call_record before.number before.made call answer.reply Unchanged None) old.journal.knows
   pub spare : old.journal.spare ≤ new.journal.spare + 1
   pub gate : new.gate ≡ record old.gate { open_handles = new.gate.open_handles }
   pub notes : NotesReply old.gate.open_handles new.gate.open_handles 0 before.number call answer.reply
@@ -45,9 +39,7 @@ module _ {F R : Type 0} (of_file : F → FileState) (of_port : R → PortState) 
     pub settled : IsSettled of_file of_port old new
     pub idle : new.gate.doubt ≡ None
     pub calm : IsCalm store new.journal.knows after
-    pub number : after.number ≡ before.number
-    pub made : after.made ≡ before.made
-    pub goes_on : GoesOn store before after
+    pub waits : IsWaiting store before after
 
 module _ {F R : Type 0} (of_file : F → FileState) (of_port : R → PortState) (reliable : Type 0) (drew draws : ℕ) where
   -- what happened to a commit in doubt before the call was answered so
@@ -69,10 +61,7 @@ module _ {F R : Type 0} (of_file : F → FileState) (of_port : R → PortState) 
   pub record IsUnserved {E : Type 0} (store : Store) (old new : GuardedGateValue F R) (before after : CallerSession E) : Type 0 where
     pub gate : (new ≡ old) ⊎ WasResolved of_file of_port old new
     pub undrawn : draws ≡ drew
-    pub caller : IsCallerOf store after
-    pub number : after.number ≡ before.number
-    pub made : after.made ≡ before.made
-    pub goes_on : GoesOn store before after
+    pub waits : IsWaiting store before after
 
   -- so by the result
   abbrev pub ServesAlone : {E X : Type 0} → Store → Call → (old new : GuardedGateValue F R) → (before after : CallerSession E) → Result (Option PlacedReply) X → Type 0

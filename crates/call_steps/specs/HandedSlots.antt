@@ -9,7 +9,9 @@ use Rattle.store_model.specs.Record.{Tag}
 use Rattle.history_seats.specs.Records.{Version}
 use Rattle.history_seats.specs.Views.{GateView}
 use Rattle.crash_core.specs.CoreState.{IsTrusted}
-use Rattle.crash_core.specs.EntryChanges.{EntryChange, IsChange}
+use Rattle.crash_core.specs.declared.change.EntryChange.{EntryChange}
+use Rattle.crash_core.specs.EntryChanges.{IsChange}
+use Rattle.crash_core.specs.declared.change.DoubtedChange.{DoubtedChange}
 use Rattle.core_laws.specs.GateLaws.{HandedShows}
 use Rattle.core_laws.specs.GateSteps.{Handed}
 use Rattle.core_laws.specs.SlotParts.{VersionStands}
@@ -17,7 +19,7 @@ use Rattle.core_laws.specs.TamperScenarios.{TamperScenario}
 use Rattle.core_laws.specs.Stores.{Store, replay_at}
 use Rattle.commit_gate.specs.FinishedPhases.{phase_under}
 use Rattle.core_laws.specs.CommitMaps.{IsCommitUnder}
-use Rattle.core_laws.specs.Ties.{DoubtedChange, IsTied}
+use Rattle.core_laws.specs.Ties.{IsTied}
 
 -- The slot that is handed over is of the tag's file, in which the version stands that the commit leaves.
 pub record IsHandedFor (store : Store) (scenario : TamperScenario) (handed : Handed) (tag : Tag Version) : Type 0 where

@@ -1,4 +1,5 @@
 pub mod Seen
+pub mod SessionEvents
 pub mod Resolved
 pub mod GateServed
 pub mod Foreseen
@@ -84,7 +85,6 @@ pub use Rattle.commit_gate.specs.SlotAnswers
 pub use Rattle.object_slots.specs.SlotCalls
 pub use Rattle.object_slots.specs.SlotChecks
 pub use Rattle.object_slots.specs.SlotFaults
-pub use Rattle.object_slots.specs.SlotInside
 pub use Rattle.object_slots.specs.SlotObjects
 pub use Rattle.object_slots.specs.SlotStages
 pub use Rattle.object_slots.specs.SlotValues

@@ -4,7 +4,7 @@ use Rattle.commit_gate.specs.CallerSessions.{CallerSession}
 use Rattle.call_rules.specs.Matches.{Matches}
 use Rattle.call_rules.specs.Objects.{IsDone}
 use Rattle.call_rules.specs.declared.decision.OpenObject.{OpenObject}
-use Rattle.crash_core.specs.EntryChanges.{Clear, Put}
+use Rattle.crash_core.specs.declared.change.EntryChange.TheVariants.{Clear, Put}
 use Rattle.call_rules.specs.Index.{named}
 use Rattle.dir_records.specs.declared.entry.DirEntry.{DirEntry}
 use Rattle.disk_model.specs.State.{FileState}

@@ -1,15 +1,16 @@
 -- What a call brings to the gate with the slot of its object, and what it leaves once the commit has ended.
 use Rattle.std.specs.Prelude.{IsTrue, Some, length, ℕ, ◌+◌, ◌≡◌, ◌↔◌, ◌≤◌}
-use Rattle.commit_gate.specs.CallerSessions.{CallerSession, IsCallerOf, session_value}
-use Rattle.crash_core.specs.EntryChanges.{EntryChange}
+use Rattle.commit_gate.specs.CallerSessions.{CallerSession}
+use Rattle.crash_core.specs.declared.change.EntryChange.{EntryChange}
 use Rattle.disk_model.specs.State.{FileState}
 use Rattle.history_seats.specs.Changes.{TagVersions, with_record}
 use Rattle.history_seats.specs.Records.{HistoryRecord}
 use Rattle.history_seats.specs.Views.{GateView, Sight, SlotView}
 use Rattle.commit_gate.specs.declared.placed_reply.PlacedReply.{PlacedReply}
-use Rattle.commit_gate.specs.GateEnds.{HandlesBehind, IsCommitEnd, closing_behind, end_event, reply_told}
+use Rattle.commit_gate.specs.GateEnds.{HandlesBehind, IsCommitEnd, closing_behind, end_event, mark_told, reply_told}
 use Rattle.commit_gate.specs.GuardedGates.{GuardedGateValue}
 use Rattle.call_steps.specs.CommittableSlots.{IsCommittableSlot, SeesWhole}
+use Rattle.call_steps.specs.SessionEvents.{Appends}
 use Rattle.call_steps.specs.SlotCommits.{IsSlotCommit}
 use Rattle.object_slots.specs.SlotValues.{SlotValue}
 use Rattle.rpmb_card.specs.Port.{PortState}
@@ -22,9 +23,7 @@ use Rattle.commit_gate.specs.Heard.{EndHeard}
 use Rattle.commit_gate.specs.Steps.{Steps}
 use Rattle.commit_gate.specs.declared.CommitEnd.{CommitEnd}
 use Rattle.commit_gate.specs.declared.CommitEnd.TheVariants.{Spent}
-use Rattle.commit_gate.specs.declared.EntryChange.{EntryChange as GateChange}
 use Rattle.store_model.specs.Record.{file_of}
-use Rattle.core_laws.specs.Sessions.{Extends}
 use Rattle.core_laws.specs.Stores.{Store}
 use Rattle.tee_types.specs.declared.call.Call.{Call}
 use Rattle.tee_types.specs.declared.reply.Reply.{Reply}
@@ -41,7 +40,7 @@ pub record IsCommittable {F R E : Type 0} (store : Store) (gate : GateValue F R)
 
 -- What the gate did of the commit of a session's call on the object in that file. `Reliable` says that the session's generator never fails;
 -- it counted faults from `drew` to `draws`.
-pub record CommitsGate {F R : Type 0} (of_file : F → FileState) (of_port : R → PortState) (old new : GuardedGateValue F R) (file session : ℕ) (call : Call) (own : Reply) (change : GateChange) (end : CommitEnd)
+pub record CommitsGate {F R : Type 0} (of_file : F → FileState) (of_port : R → PortState) (old new : GuardedGateValue F R) (file session : ℕ) (call : Call) (own : Reply) (change : EntryChange) (end : CommitEnd)
     (Reliable : Type 0) (drew draws : ℕ) : Type 0 where
   pub leaves : Leaves (gate_sides of_file of_port old.gate) (gate_sides of_file of_port new.gate) change end
   pub doubt : new.gate.doubt ≡ doubt_left change end
@@ -65,15 +64,12 @@ pub record CommitsGate {F R : Type 0} (of_file : F → FileState) (of_port : R �
 
 -- The call was committed with that end, and its event appended: the last of the history, with the file's tag. The session is the store's
 -- behind it.
-pub record IsCommitted {F R E : Type 0} (of_file : F → FileState) (of_port : R → PortState) (store : Store) (old new : GuardedGateValue F R) (file : ℕ) (was now : CallerSession E) (call : Call) (own : Reply) (change : GateChange)
+pub record IsCommitted {F R E : Type 0} (of_file : F → FileState) (of_port : R → PortState) (store : Store) (old new : GuardedGateValue F R) (file : ℕ) (was now : CallerSession E) (call : Call) (own : Reply) (change : EntryChange)
     (Reliable : Type 0) (drew draws : ℕ) (answer : PlacedReply) : Type 0 where
   pub end : CommitEnd
   pub reply : answer.reply ≡ reply_told end own
   pub place : answer.place ≡ length old.journal.knows.all
-  pub extends : Extends store (session_value was) (session_value now) (end_event end was.number was.made call own) answer.place
-  pub whole : IsCallerOf store now
-  pub number : now.number ≡ was.number
-  pub made : now.made ≡ was.made + 1
+  pub appends : Appends store was now call answer (mark_told end)
   pub last : HistoryRecord
   pub event : last.event ≡ end_event end was.number was.made call own
   pub tagged : file_of last ≡ Some file

@@ -8,7 +8,7 @@ use Rattle.core_laws.specs.GateSteps.{Handed}
 use Rattle.core_laws.specs.Answered.{AreAnswered}
 use Rattle.core_laws.specs.TamperScenarios.{TamperScenario}
 use Rattle.core_laws.specs.Stores.{Store}
-use Rattle.commit_gate.specs.declared.Doubted.{Doubted}
+use Rattle.commit_gate.specs.declared.DoubtedChange.{DoubtedChange}
 use Rattle.commit_gate.specs.declared.Resolved.{Resolved}
 use Rattle.commit_gate.specs.Gates.{gate_sides}
 use Rattle.commit_gate.specs.Resolving.{LeavesDoubt, Resolves, ResolvesHolds, TellsCounter}
@@ -18,7 +18,7 @@ use Rattle.call_steps.specs.ServiceCores.{IsPart, StepsOn}
 
 module _ {F R : Type 0} (of_file : F → FileState) (of_port : R → PortState) where
   -- What `resolve` of a gate behind its lock leaves.
-  pub record ResolvesGuarded (store : Store) (old new : GuardedGateValue F R) (d : Doubted) (result : Result Resolved Cause) : Type 0 where
+  pub record ResolvesGuarded (store : Store) (old new : GuardedGateValue F R) (d : DoubtedChange) (result : Result Resolved Cause) : Type 0 where
     pub in_doubt : old.gate.doubt ≡ Some d
     pub resolves : Resolves (gate_sides of_file of_port old.gate) (gate_sides of_file of_port new.gate) d result
     pub doubt : LeavesDoubt old.gate.doubt new.gate.doubt result
@@ -32,6 +32,6 @@ module _ {F R : Type 0} (of_file : F → FileState) (of_port : R → PortState) 
 
 abbrev pub ResolvedDoubtsAreSteps : (F R : Type 0) → Type 0
 ResolvedDoubtsAreSteps F R =
-    (of_file : F → FileState) (of_port : R → PortState) (store : Store) (scenario : TamperScenario) (handed : Option Handed) (old new : GuardedGateValue F R) (card : CardState) (d : Doubted)
+    (of_file : F → FileState) (of_port : R → PortState) (store : Store) (scenario : TamperScenario) (handed : Option Handed) (old new : GuardedGateValue F R) (card : CardState) (d : DoubtedChange)
     (result : Result Resolved Cause) → IsPart of_file of_port store old card → AreAnswered store scenario old.journal.knows.all → ResolvesGuarded of_file of_port store old new d result
     → StepsOn of_file of_port store scenario handed old card new

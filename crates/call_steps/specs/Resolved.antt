@@ -6,7 +6,7 @@ use Rattle.rpmb_card.specs.Port.{PortState}
 use Rattle.tee_types.specs.declared.reply.Cause.{Cause}
 use Rattle.tee_types.specs.declared.reply.Cause.TheVariants.{Fault}
 use Rattle.tee_types.specs.declared.reply.Device.TheVariants.{Entropy}
-use Rattle.commit_gate.specs.declared.Doubted.{Doubted}
+use Rattle.commit_gate.specs.declared.DoubtedChange.{DoubtedChange}
 use Rattle.commit_gate.specs.declared.Resolved.{Resolved}
 use Rattle.commit_gate.specs.CardCauses.{IsOfFrame}
 use Rattle.commit_gate.specs.Causes.{StaysCalm}
@@ -17,7 +17,7 @@ use Rattle.commit_gate.specs.Settled.{ClosesIfLanded, closing_left, view_settled
 
 module _ {F R : Type 0} (of_file : F → FileState) (of_port : R → PortState) where
   -- One read of the card's counter, with that nonce, gave that answer of the commit in doubt.
-  pub record HasResolved (nonce : List ℕ) (d : Doubted) (old new : GuardedGateValue F R) (result : Result Resolved Cause) : Type 0 where
+  pub record HasResolved (nonce : List ℕ) (d : DoubtedChange) (old new : GuardedGateValue F R) (result : Result Resolved Cause) : Type 0 where
     pub resolves : Resolves (gate_sides of_file of_port old.gate) (gate_sides of_file of_port new.gate) d result
     pub doubt : LeavesDoubt old.gate.doubt new.gate.doubt result
     pub holds : ResolvesHolds d result old.gate.holds new.gate.holds
@@ -36,7 +36,7 @@ module _ {F R : Type 0} (of_file : F → FileState) (of_port : R → PortState) 
 
   -- A commit was in doubt, and what became of it is in the history.
   pub record WasResolved (old new : GuardedGateValue F R) : Type 0 where
-    pub doubted : Doubted
+    pub doubted : DoubtedChange
     pub was : old.gate.doubt ≡ Some doubted
     pub nonce : List ℕ
     pub how : Resolved
@@ -48,6 +48,6 @@ module _ {F R : Type 0} (of_file : F → FileState) (of_port : R → PortState) 
 
   -- A commit is in doubt still: no nonce could be drawn from a generator that may fail, or one read of the counter did not tell.
   pub record StaysInDoubt (reliable : Type 0) (drew draws : ℕ) (old new : GuardedGateValue F R) (cause : Cause) : Type 0 where
-    pub doubted : Doubted
+    pub doubted : DoubtedChange
     pub was : old.gate.doubt ≡ Some doubted
     pub why : ((new ≡ old) × Rose drew draws × (cause ≡ Fault Entropy draws) × (reliable → ⊥)) ⊎ ((nonce : List ℕ) × HasResolved nonce doubted old new (Err cause))

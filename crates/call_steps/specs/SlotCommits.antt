@@ -1,6 +1,6 @@
 -- A commit that is brought with the slot of its object.
 use Rattle.std.specs.Prelude.{IsTrue, List, Option, false, ℕ, ◌≡◌}
-use Rattle.crash_core.specs.EntryChanges.{EntryChange}
+use Rattle.crash_core.specs.declared.change.EntryChange.{EntryChange}
 use Rattle.dir_records.specs.declared.entry.DirEntry.{DirEntry}
 use Rattle.disk_model.specs.State.{FileState}
 use Rattle.history_seats.specs.Changes.{TagVersions}

@@ -1,7 +1,7 @@
 -- A slot behind the end of its commit.
 use Rattle.std.specs.Prelude.{None, Option, length, ℕ, ◌≡◌}
 use Rattle.commit_gate.specs.CallerSessions.{CallerSession}
-use Rattle.crash_core.specs.EntryChanges.{EntryChange}
+use Rattle.crash_core.specs.declared.change.EntryChange.{EntryChange}
 use Rattle.history_seats.specs.Changes.{TagVersions, slot_renewed}
 use Rattle.history_seats.specs.Views.{GateView, Sight, SlotView}
 use Rattle.commit_gate.specs.Commits.{IsCalm}

@@ -36,9 +36,7 @@ pub fn tell<F: StoreFile + Drop, R: RpmbPort + Drop, L: StoreName, E: Entropy>(
     ensures guarded { SlotInvariant L.store slot.new }
     ensures whole { SeesWhole gate.new.journal.knows slot.new }
 {
-    // Tell what always holds of the gate.
-    let _doubt = gate.doubt();
-    let _counter = gate.counter();
+    gate.reveal_invariant();
     let seat = slot.lend_seat();
     let (place, seat) = gate.answer_with(seat, session, call, reply);
     slot.give_seat(seat);

@@ -6,7 +6,8 @@ ghost use Rattle.commit_gate.specs.Prepared.{DrawnCause};
 ghost use Rattle.commit_gate.specs.Commits.{IsCalm};
 ghost use Rattle.call_steps.specs.Devices.{DrawsOn};
 ghost use Rattle.call_steps.specs.Resolved.{HasResolved, IsSettled, StaysInDoubt};
-ghost use Rattle.call_steps.specs.Seen.{GoesOn, HasSeen};
+ghost use Rattle.call_steps.specs.Seen.{HasSeen};
+ghost use Rattle.call_steps.specs.SessionEvents.{IsWaiting};
 
 use commit_gate::{GuardedGate, Resolved, Session};
 use core_laws::StoreName;
@@ -62,22 +63,20 @@ pub fn settle<F: StoreFile + Drop, R: RpmbPort + Drop, L: StoreName, E: Entropy>
     ensures cause { IfErr result (λ cause. is_of_card cause ≡ true) }
     ensures kept { IfErr result (λ _. session.new ≡ record session.old { entropy = session.new.entropy }) }
     ensures seen { HasSeen L.store gate.new.journal.knows session.new }
-    ensures goes_on { GoesOn L.store session.old session.new }
-    ensures number { session.new.number ≡ session.old.number }
-    ensures made { session.new.made ≡ session.old.made }
+    ensures waits { IsWaiting L.store session.old session.new }
     ensures draws { DrawsOn E.is_reliable E.faults session.old.entropy session.new.entropy }
     // None counts a fault where the commit is settled.
     ensures undrawn { OnOk result (E.faults session.new.entropy ≡ E.faults session.old.entropy) }
     // Nothing is drawn where no commit is in doubt.
     ensures let_be { gate.old.gate.doubt ≡ None → session.new.entropy ≡ session.old.entropy }
 {
+    gate.reveal_invariant();
     if gate.doubt().is_none() {
         return Ok(());
     }
     let nonce = draw_nonce(session.entropy_mut())?;
     resolve_once(gate, &nonce)?;
     gate.catch_up(None, session);
-    // Tells what always holds behind the lock.
-    let _doubt = gate.doubt();
+    gate.reveal_invariant();
     Ok(())
 }

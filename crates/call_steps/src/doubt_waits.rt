@@ -33,7 +33,7 @@ pub fn held_up<F: StoreFile + Drop, R: RpmbPort + Drop, L: StoreName, E: Entropy
     ensures reply { result.reply ≡ NotAvailable cause }
     ensures entropy { session.new.entropy ≡ session.old.entropy }
 {
-    let _doubt = gate.doubt();
+    gate.reveal_invariant();
     let place = gate.answer(session, call, Reply::NotAvailable(cause));
     PlacedReply {
         place,

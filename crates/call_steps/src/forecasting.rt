@@ -40,7 +40,6 @@ pub fn forecast<F: StoreFile + Drop, R: RpmbPort + Drop, L: StoreName, E: Entrop
     if let Some(answer) = answer_first(alloc, gate, session, call)? {
         return Ok(Err(answer));
     }
-    // Tells what always holds behind the lock.
-    let _doubt = gate.doubt();
+    gate.reveal_invariant();
     Ok(Ok(gate.forecast(session, call)))
 }

@@ -34,8 +34,8 @@ mod stage_ends;
 pub use answer_appending::tell;
 pub use call_rules::Held;
 pub use commit_gate::{
-    Closing, CommitEnd, Doubted, EntryChange, GuardedGate, Journal, PlacedReply, Resolved, Session,
-    SessionMove, retire_session,
+    Closing, CommitEnd, DoubtedChange, EntryChange, GuardedGate, Journal, PlacedReply, Resolved,
+    Session, SessionMove, retire_session,
 };
 pub use commit_laws::{
     commits_end_slots, creates_may_commit, deletes_may_commit, ended_slots_are_guarded,

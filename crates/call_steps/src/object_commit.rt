@@ -2,7 +2,6 @@
 
 ghost use Rattle.std.specs.Prelude.{◌≡◌, ◌≤◌, None};
 ghost use Rattle.history_seats.specs.Changes.{TagVersions};
-ghost use Rattle.commit_gate.specs.Changes.{change_of};
 ghost use Rattle.store_model.specs.Record.{fault_in_reply};
 ghost use Rattle.commit_gate.specs.JournalCalls.{LeavesSession};
 ghost use Rattle.commit_gate.specs.Commits.{IsCalm};
@@ -34,13 +33,13 @@ fn commit_versions<F: StoreFile + Drop, R: RpmbPort + Drop, L: StoreName, E: Ent
     step: SessionMove,
 ) -> PlacedReply
     ghost versions: { TagVersions }
-    requires committable { IsCommittable L.store gate.old.gate gate.old.journal.knows slot.old session.old call own (change_of change) versions }
+    requires committable { IsCommittable L.store gate.old.gate gate.old.journal.knows slot.old session.old call own change versions }
     requires idle { gate.old.gate.doubt ≡ None }
     requires names { 1 ≤ gate.old.gate.room }
     requires handles { 1 ≤ gate.old.gate.open_handles.spare }
     requires events { 1 ≤ gate.old.journal.spare }
     requires calm { IsCalm L.store gate.old.journal.knows session.old }
-    requires held { HoldsNewFile gate.old.gate.holds call (change_of change) }
+    requires held { HoldsNewFile gate.old.gate.holds call change }
     requires copied { told ≡ own }
     requires fault { fault_in_reply own ≡ None }
     requires may { MayMove session.old.state step }
@@ -53,8 +52,7 @@ fn commit_versions<F: StoreFile + Drop, R: RpmbPort + Drop, L: StoreName, E: Ent
     ensures number { slot.new.number ≡ slot.old.number }
     ensures file { slot.new.file ≡ slot.old.file }
 {
-    // Tells what always holds behind the lock.
-    let _doubt = gate.doubt();
+    gate.reveal_invariant();
     let seat = slot.lend_seat();
     let committed = gate.commit::<E, Brand>(change, seat, session, call, own, step);
     let reply = committed.reply(told);
@@ -82,13 +80,13 @@ pub fn commit_change<F: StoreFile + Drop, R: RpmbPort + Drop, L: StoreName, E: E
     told: Reply,
     step: SessionMove,
 ) -> PlacedReply
-    requires committable { (versions : TagVersions) × IsCommittable L.store gate.old.gate gate.old.journal.knows slot.old session.old call own (change_of change) versions }
+    requires committable { (versions : TagVersions) × IsCommittable L.store gate.old.gate gate.old.journal.knows slot.old session.old call own change versions }
     requires idle { gate.old.gate.doubt ≡ None }
     requires names { 1 ≤ gate.old.gate.room }
     requires handles { 1 ≤ gate.old.gate.open_handles.spare }
     requires events { 1 ≤ gate.old.journal.spare }
     requires calm { IsCalm L.store gate.old.journal.knows session.old }
-    requires held { HoldsNewFile gate.old.gate.holds call (change_of change) }
+    requires held { HoldsNewFile gate.old.gate.holds call change }
     requires copied { told ≡ own }
     requires fault { fault_in_reply own ≡ None }
     requires may { MayMove session.old.state step }

@@ -10,7 +10,6 @@ ghost use Rattle.call_rules.specs.Told.{IsTold};
 ghost use Rattle.core_laws.specs.TieLaws.{KeepsDoubt};
 ghost use Rattle.commit_gate.specs.Answering.{LeavesHandles};
 ghost use Rattle.commit_gate.specs.Commits.{IsCalm};
-ghost use Rattle.commit_gate.specs.GuardedGates.{change_in_doubt};
 ghost use Rattle.commit_gate.specs.Ruled.{IsRuled};
 ghost use Rattle.call_steps.specs.GateServed.{IsServed};
 
@@ -32,7 +31,7 @@ pub(crate) fn tell<F: StoreFile + Drop, R: RpmbPort + Drop, L: StoreName, E: Ent
     requires within { gate.old.journal.knows.decided ≤ length gate.old.journal.knows.all }
     requires ruled { IsRuled L.store gate.old.journal.knows gate.old.gate.dir.dir.entries gate.old.gate.open_handles call reply session.old }
     requires plain { IsPlain reply }
-    requires doubt { KeepsDoubt (change_in_doubt gate.old.gate.doubt) (CallEvent session.old.number session.old.made call reply Unchanged) }
+    requires doubt { KeepsDoubt gate.old.gate.doubt (CallEvent session.old.number session.old.made call reply Unchanged) }
     requires handles { LeavesHandles call reply }
     ensures served { IsServed L.store call result gate.old gate.new session.old session.new }
     ensures reply { result.reply ≡ reply }

@@ -28,8 +28,7 @@ pub(crate) fn close<F: StoreFile + Drop, R: RpmbPort + Drop, L: StoreName, E: En
 {
     let reply = call_rules::close(session.state_mut(), handle);
     if let Reply::Done = reply {
-        let _counter = gate.counter();
-        let _doubt = gate.doubt();
+        gate.reveal_invariant();
         let place = gate.close_handle(session, handle);
         return PlacedReply {
             place,

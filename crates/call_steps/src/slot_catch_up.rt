@@ -115,7 +115,6 @@ pub fn catch_up_entry<F: StoreFile + Drop, R: RpmbPort + Drop, L: StoreName, E: 
     ensures whole { IsCallerOf L.store session.new }
     ensures stands { (scenario : TamperScenario) → AreAnswered L.store scenario gate.old.journal.knows.all → IsSessionAt (replay_at L.store scenario gate.old.journal.knows.all).state session.new }
 {
-    // Tells what always holds of the gate.
-    let _doubt = gate.doubt();
+    gate.reveal_invariant();
     catch_up_slot(gate, slot, session);
 }

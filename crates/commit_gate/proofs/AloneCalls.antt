@@ -13,24 +13,23 @@ use Rattle.store_model.specs.ReplayState.{ReplayState}
 use Rattle.dir_records.specs.declared.entry.DirEntry.{DirEntry}
 use Rattle.history_seats.specs.Records.{HistoryRecord, Version}
 use Rattle.history_seats.specs.Views.{GateView}
-use Rattle.history_seats.specs.Changes.{with_record}
+use Rattle.history_seats.specs.Changes.{with_record, call_record}
 use Rattle.core_laws.specs.Stores.{Store, replay_at}
 use Rattle.core_laws.proofs.Answers.{answered-front, replay_state-snoc}
 use Rattle.core_laws.proofs.MapSteps.{quiet_after}
 use Rattle.core_laws.proofs.SessionSteps.{sessions_at}
-use Rattle.commit_gate.specs.JournalCalls.{alone_record}
 use Rattle.commit_gate.specs.Journals.{IsJournal}
 use Rattle.core_laws.specs.TieLaws.{KeepsDoubt}
 use Rattle.core_laws.proofs.QuietTies.{unchanged_ties}
 use Rattle.core_laws.proofs.RightTags.{unchanged_right}
 use Rattle.call_rules.specs.OpenLaws.{IsOpenedFile}
 use Rattle.call_rules.proofs.EventOpens.{unchanged-event}
-use Rattle.store_commit.specs.declared.gate.Doubted.{Doubted}
+use Rattle.crash_core.specs.declared.change.DoubtedChange.{DoubtedChange}
 use Rattle.store_commit.specs.Gates.{GateValue}
 use Rattle.open_table.specs.HandleChanges.{NotesReply}
 use Rattle.commit_gate.specs.declared.guarded_gate.Closing.{Closing}
 use Rattle.commit_gate.specs.Answering.{LeavesHandles}
-use Rattle.commit_gate.specs.GuardedGates.{AreHandlesTied, IsClosingTied, GateInvariant, change_in_doubt}
+use Rattle.commit_gate.specs.GuardedGates.{AreHandlesTied, IsClosingTied, GateInvariant}
 
 none_some : {A : Type 0} (a : A) → None ≡ Some a → ⊥
 none_some a e = cc
@@ -51,7 +50,7 @@ quiet-opened call reply entries s session file quiet = tt
 
 module _ (store : Store) (knows : GateView) (session made : ℕ) (call : Call) (reply : Reply) where
   abbrev r : HistoryRecord
-  r = alone_record session made call reply
+  r = call_record session made call reply Unchanged None
 
   alone-handles : (entries : List (Option DirEntry)) (old new : TableState) → session < length store.mounted.applications → NotesReply old new 0 session call reply
       → ((s : MachineState) → IsOpenedFile entries s session call reply 0) → AreHandlesTied store knows entries old → AreHandlesTied store (with_record r knows) entries new
@@ -59,7 +58,7 @@ module _ (store : Store) (knows : GateView) (session made : ℕ) (call : Call) (
       unchanged-event store scenario knows.all r answered entries old new (tied scenario (answered-front store scenario knows.all (r ∷ []) answered)) session made 0 call reply notes refl
       (subst (λ (n : ℕ). session < n) (sym (sessions_at store scenario knows.all)) known) (opened (replay_at store scenario knows.all).state)
 
-  alone-closes : (doubt : Option Doubted) (closing : Option Closing) → IsClosingTied store knows doubt closing → IsClosingTied store (with_record r knows) doubt closing
+  alone-closes : (doubt : Option DoubtedChange) (closing : Option Closing) → IsClosingTied store knows doubt closing → IsClosingTied store (with_record r knows) doubt closing
   alone-closes None closing closes = closes
   alone-closes (Some d) closing closes = λ scenario own answered is.
       let here = replay_at store scenario knows.all in
@@ -67,13 +66,13 @@ module _ (store : Store) (knows : GateView) (session made : ℕ) (call : Call) (
       ((quiet_after here r.event (file_of r) refl).doubt own (sym (ap (λ (s : ReplayState). s.doubt) (replay_state-snoc store scenario knows.all r)) ∙ is)).0
 
   pub alone-guarded : {F R : Type 0} (gate : GateValue F R) (table : TableState) (closing : Option Closing) → session < length store.mounted.applications
-      → KeepsDoubt (change_in_doubt gate.doubt) (CallEvent session made call reply Unchanged) → NotesReply gate.open_handles table 0 session call reply
+      → KeepsDoubt gate.doubt (CallEvent session made call reply Unchanged) → NotesReply gate.open_handles table 0 session call reply
       → ((s : MachineState) → IsOpenedFile gate.dir.dir.entries s session call reply 0) → IsJournal store (with_record r knows)
       → GateInvariant store gate knows closing → GateInvariant store (record gate { open_handles = table }) (with_record r knows) closing
   alone-guarded gate table closing known keeps notes opened journal guarded = record {
     journal = journal;
     tied =
-        unchanged_ties store knows gate.dir.dir.entries gate.counter (change_in_doubt gate.doubt) r refl
+        unchanged_ties store knows gate.dir.dir.entries gate.counter gate.doubt r refl
         (unchanged_right store.mounted knows.all r refl (λ (tag : Tag Version) is. absurd (none_some tag is))) keeps guarded.tied;
     handles = alone-handles gate.dir.dir.entries gate.open_handles table known notes opened guarded.handles;
     closes = alone-closes gate.doubt closing guarded.closes;

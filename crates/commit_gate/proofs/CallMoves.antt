@@ -22,7 +22,7 @@ use Rattle.history_seats.proofs.Lists.{or_false}
 use Rattle.history_seats.specs.Sessions.{session_of}
 use Rattle.history_seats.specs.Known.{session_from}
 use Rattle.history_seats.specs.Views.{GateView, PassView, Sight}
-use Rattle.history_seats.specs.Changes.{pass_renewed, with_record}
+use Rattle.history_seats.specs.Changes.{pass_renewed, with_record, call_record}
 use Rattle.history_seats.specs.Rule.{PassFits}
 use Rattle.history_seats.proofs.OpenDoubts.{unchanged-settles}
 use Rattle.history_seats.proofs.Places.{open-now, open-snoc}
@@ -37,7 +37,7 @@ use Rattle.core_laws.proofs.SessionSteps.{doubtful_stands, made_stands, sessions
 use Rattle.commit_gate.specs.declared.own_doubt.OwnDoubt.{OwnDoubt}
 use Rattle.commit_gate.specs.CallerSessions.{CallerSession, HasOwnDoubt, IsCallerOf, IsOwnDoubt, landed_by, landing_of_call, pending_of, renamed, session_value}
 use Rattle.commit_gate.specs.SessionViews.{SeesAll, pass_shown}
-use Rattle.commit_gate.specs.JournalCalls.{DoubtfulCallsMove, HasDone, HasMoved, IsHeldUp, IsMovedBy, IsToldAlone, MadeCallsMove, UnchangedCallsMove, alone_record, session_unless_undone}
+use Rattle.commit_gate.specs.JournalCalls.{DoubtfulCallsMove, HasDone, HasMoved, IsHeldUp, IsMovedBy, IsToldAlone, MadeCallsMove, UnchangedCallsMove, session_unless_undone}
 use Rattle.commit_gate.proofs.SessionDoubts.{longer-own}
 use Rattle.commit_gate.proofs.MadeCommits.{made_due}
 use Rattle.commit_gate.proofs.SessionShowing.{some_same}
@@ -118,7 +118,7 @@ module _ (store : Store) (scenario : TamperScenario) (all : List HistoryRecord) 
   alone-answer (inr held) = Unavailable (record { cause = held.cause; replied = held.replied; marked = refl; due = Unresolved held.due })
 
   pub alone-fair : number < length store.mounted.applications → fault_in_reply reply ≡ None → (AreAnswered store scenario all → IsToldAlone here number call reply)
-      → IsFairAt store scenario all (alone_record number made call reply)
+      → IsFairAt store scenario all (call_record number made call reply Unchanged None)
   alone-fair known no_fault told answered owed =
       inl (inl (record {
         legal = record {

@@ -25,7 +25,7 @@ use Rattle.core_laws.proofs.JoinedParts.{committed_stands, pending_stands}
 use Rattle.core_laws.specs.TamperScenarios.{TamperScenario}
 use Rattle.core_laws.specs.Stores.{Store, replay_at}
 use Rattle.core_laws.proofs.Mending.{none_some}
-use Rattle.store_commit.specs.declared.gate.Doubted.{Doubted}
+use Rattle.crash_core.specs.declared.change.DoubtedChange.{DoubtedChange}
 use Rattle.store_commit.specs.Sides.{Sides}
 use Rattle.commit_gate.specs.FinishedPhases.{phase_under}
 use Rattle.commit_gate.specs.Resting.{IsResting, resting_part}
@@ -81,7 +81,7 @@ whole_by phase picture s trusted None mounts = mounts_whole phase picture (s.sta
 whole_by phase picture s trusted (Some d) (inl mounts) = inl (mounts_whole phase picture (s.state).objects trusted mounts)
 whole_by phase picture s trusted (Some d) (inr other) = inr (other.0, other.1, mounts_whole phase picture other.0 trusted other.2)
 
-module _ (store : Store) (scenario : TamperScenario) (g : Sides) (doubt : Option Doubted) (holds : List (Option ℕ)) (card : CardState) (view : GateView) (slots : ℕ → SlotPart)
+module _ (store : Store) (scenario : TamperScenario) (g : Sides) (doubt : Option DoubtedChange) (holds : List (Option ℕ)) (card : CardState) (view : GateView) (slots : ℕ → SlotPart)
     (e : IsClosedStore store scenario g doubt holds card view slots) where
   -- each file is honest that is not supposed otherwise
   files_honest : (file : ℕ) → IsTrusted (phase_under store scenario) file → IsTrue (store_files g slots file).honest
@@ -118,7 +118,7 @@ module _ (store : Store) (scenario : TamperScenario) (g : Sides) (doubt : Option
       → MountsBy doubt (phase_under store scenario) picture (replay_at store scenario view.all)
   closed_mounts picture is trusted =
       mounts_by (phase_under store scenario) parts picture parts_hold rests.at_rest is trusted doubt
-      (λ none. ap (λ (d : Option Doubted). pending_of d (replay_at store scenario view.all).doubt (sealed_in g card)) none)
+      (λ none. ap (λ (d : Option DoubtedChange). pending_of d (replay_at store scenario view.all).doubt (sealed_in g card)) none)
 
   pub honest_mounts : (picture : Picture) → IsPictureOf (store_files g slots) card picture → ((file : ℕ) → IsTrusted (phase_under store scenario) file)
       → IsMapBy doubt (phase_under store scenario) picture (replay_at store scenario view.all)

@@ -13,7 +13,9 @@ use Rattle.store_model.proofs.MadeChanges.{commits_make_changes}
 use Rattle.history_seats.specs.Views.{GateView}
 use Rattle.crash_core.specs.CardBlock.{root_block, root_in}
 use Rattle.crash_core.specs.DeviceKeys.{directory_key}
-use Rattle.crash_core.specs.EntryChanges.{Clear, EntryChange, Put, changed}
+use Rattle.crash_core.specs.declared.change.EntryChange.{EntryChange}
+use Rattle.crash_core.specs.declared.change.EntryChange.TheVariants.{Clear, Put}
+use Rattle.crash_core.specs.EntryChanges.{changed}
 use Rattle.crash_core.specs.Mounting.{Held, map_of}
 use Rattle.crash_core.specs.Sights.{Sight, Stands, sight_of}
 use Rattle.crash_core.specs.CoreState.{IsTrusted, PendingCommit, Phase}

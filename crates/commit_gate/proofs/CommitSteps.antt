@@ -46,10 +46,9 @@ use Rattle.core_laws.specs.TamperScenarios.{TamperScenario}
 use Rattle.core_laws.specs.Stores.{Store, replay_at}
 use Rattle.core_laws.proofs.Answers.{replay_state-snoc}
 use Rattle.store_commit.specs.View.{DirView, StagedDirectory}
-use Rattle.store_commit.specs.declared.change.EntryChange.{EntryChange}
+use Rattle.crash_core.specs.declared.change.EntryChange.{EntryChange}
 use Rattle.store_commit.specs.declared.change.CommitEnd.TheVariants.{Made, Dropped, Doubtful, Spent}
 use Rattle.store_commit.specs.CardEnds.{IsSealedCard}
-use Rattle.store_commit.specs.Changes.{change_of}
 use Rattle.store_commit.specs.Sides.{Sides}
 use Rattle.store_commit.specs.Steps.{IsReady}
 use Rattle.commit_gate.specs.FinishedPhases.{phase_under}
@@ -95,10 +94,10 @@ module _ (store : Store) (scenario : TamperScenario) (handed : Option Handed) (o
   start = made_of old.file card old.dir.root old.dir.entries (takes_of before) None view
 
   abbrev commit : PendingCommit
-  commit = record { session = session; call = call; change = change_of change; sealed = None }
+  commit = record { session = session; call = call; change = change; sealed = None }
 
   abbrev sealed_commit : RootRef → PendingCommit
-  sealed_commit root = record { session = session; call = call; change = change_of change; sealed = Some root }
+  sealed_commit root = record { session = session; call = call; change = change; sealed = Some root }
 
   -- ready for the seal, and sealed
   abbrev prepared : GatePart
@@ -150,12 +149,12 @@ module _ (store : Store) (scenario : TamperScenario) (handed : Option Handed) (o
         form = ready.form;
         current = ready.format ∙ gate.current;
         settled = λ trusted. ready.settled;
-        holds = λ trusted. subst (λ (key : List ℕ). directory_of key new.file.reads root ≡ Ok (changed old.dir.entries (change_of change))) gate.tsk (ready.holds (honest trusted));
+        holds = λ trusted. subst (λ (key : List ℕ). directory_of key new.file.reads root ≡ Ok (changed old.dir.entries change)) gate.tsk (ready.holds (honest trusted));
         due = purpose.due;
         made = purpose.made;
         makes = purpose.makes;
         object = purpose.object;
-        change = subst (λ (n : ℕ). IsChange (here.state).objects old.dir.entries n purpose.made (change_of change) purpose.object) (sym counted) purpose.enters;
+        change = subst (λ (n : ℕ). IsChange (here.state).objects old.dir.entries n purpose.made change purpose.object) (sym counted) purpose.enters;
         shows = purpose.shows;
       }
 
@@ -180,13 +179,13 @@ module _ (store : Store) (scenario : TamperScenario) (handed : Option Handed) (o
       made_steps : (n : ℕ) → IsGateCommit old new change (Made n) before after → Legal (MadeMark n) → StepsTo store scenario handed start new None after (with_record (event (MadeMark n)) view)
       made_steps n c legal =
           let root : RootRef = new.dir.root in
-          let left : GatePart = made_of new.file (sealed_card card root) root (changed old.dir.entries (change_of change)) (freed (change_of change) (takes_of before)) None (with_record (event (MadeMark n)) view) in
+          let left : GatePart = made_of new.file (sealed_card card root) root (changed old.dir.entries change) (freed change (takes_of before)) None (with_record (event (MadeMark n)) view) in
           let done : GateSteps phase handed start left =
           steps_then phase handed start (sealed_part root) left (seals root c.steps.0)
           (one_step phase handed (sealed_part root) (Append (event (MadeMark n))) left
           (append_made_is_step phase handed (sealed_part root) session number call reply n tag (sealed_commit root) root refl refl refl refl legal)) in
-          let entries : changed old.dir.entries (change_of change) ≡ new.dir.entries = sym c.leaves.entries in
-          let takes : freed (change_of change) (takes_of before) ≡ takes_of after = sym (takes_freed old.dir.entries new.dir.entries before after gate.held c.held change c.ends) in
+          let entries : changed old.dir.entries change ≡ new.dir.entries = sym c.leaves.entries in
+          let takes : freed change (takes_of before) ≡ takes_of after = sym (takes_freed old.dir.entries new.dir.entries before after gate.held c.held change c.ends) in
           record {
             card = sealed_card card root;
             told = sealed_told root (c.steps.1 own (gate.told).has);
@@ -227,7 +226,7 @@ module _ (store : Store) (scenario : TamperScenario) (handed : Option Handed) (o
         doubt_is = ap (λ (s : ReplayState). s.doubt) (replay_state-snoc store scenario view.all (event (DoubtfulMark n)))
 
         waits : (sealed : Option RootRef) (next : CardState) → sealed_in new next ≡ sealed
-            → Some (record { session = session; call = call; change = change_of change; sealed = sealed })
+            → Some (record { session = session; call = call; change = change; sealed = sealed })
             ≡ pending_of (Some (record { number = n; change = change })) (replay_at store scenario doubted_view.all).doubt (sealed_in new next)
         waits sealed next is = sym (λ j. pending_of (Some (record { number = n; change = change })) (doubt_is j) (is j))
 

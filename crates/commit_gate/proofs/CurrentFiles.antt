@@ -2,13 +2,14 @@
 use Rattle.std.proofs.Common.{◌≡◌, List, Option, Some, None, IfSome, sym, ◌∙◌, subst, inl, inr}
 use Rattle.node_image.specs.References.{current_format}
 use Rattle.dir_records.specs.declared.entry.DirEntry.{DirEntry}
-use Rattle.crash_core.specs.EntryChanges.{Clear, EntryChange, Put, changed}
+use Rattle.crash_core.specs.declared.change.EntryChange.{EntryChange}
+use Rattle.crash_core.specs.declared.change.EntryChange.TheVariants.{Clear, Put}
+use Rattle.crash_core.specs.EntryChanges.{changed}
 use Rattle.crash_core.specs.EntryLists.{AreCurrent}
 use Rattle.crash_core.proofs.Lists.{set_at}
 use Rattle.core_laws.proofs.Mending.{none_some, some_same}
 use Rattle.store_commit.specs.View.{DirView}
-use Rattle.store_commit.specs.declared.gate.Doubted.{Doubted}
-use Rattle.store_commit.specs.Changes.{change_of}
+use Rattle.crash_core.specs.declared.change.DoubtedChange.{DoubtedChange}
 use Rattle.commit_gate.specs.CurrentFiles.{AreFilesCurrent, PutsCurrent}
 
 -- so it is with a change that puts none of another format
@@ -22,9 +23,9 @@ changed_current entries (Clear k) are puts = λ index e at. elim (set_at entries
   | inr old ↦ are index e old
 ]
 
-module _ (old new : DirView) (doubt : Option Doubted) (are : AreFilesCurrent old doubt) where
+module _ (old new : DirView) (doubt : Option DoubtedChange) (are : AreFilesCurrent old doubt) where
   -- no change landed, and none that is in doubt puts a file of another format
-  pub kept_current : (left : Option Doubted) → new.root.format ≡ old.root.format → new.entries ≡ old.entries → IfSome left (λ d. PutsCurrent (change_of d.change)) → AreFilesCurrent new left
+  pub kept_current : (left : Option DoubtedChange) → new.root.format ≡ old.root.format → new.entries ≡ old.entries → IfSome left (λ d. PutsCurrent d.change) → AreFilesCurrent new left
   kept_current left format same put = record {
     root = format ∙ are.root;
     entries = subst AreCurrent (sym same) are.entries;
@@ -32,10 +33,10 @@ module _ (old new : DirView) (doubt : Option Doubted) (are : AreFilesCurrent old
   }
 
   -- a change landed that puts none
-  pub landed_current : (change : EntryChange) → PutsCurrent change → new.root.format ≡ old.root.format → new.entries ≡ changed old.entries change → (left : Option Doubted) → left ≡ None
+  pub landed_current : (change : EntryChange) → PutsCurrent change → new.root.format ≡ old.root.format → new.entries ≡ changed old.entries change → (left : Option DoubtedChange) → left ≡ None
       → AreFilesCurrent new left
   landed_current change puts format is left none = record {
     root = format ∙ are.root;
     entries = subst AreCurrent (sym is) (changed_current old.entries change are.entries puts);
-    put = subst (λ (o : Option Doubted). IfSome o (λ d. PutsCurrent (change_of d.change))) (sym none) tt;
+    put = subst (λ (o : Option DoubtedChange). IfSome o (λ d. PutsCurrent d.change)) (sym none) tt;
   }

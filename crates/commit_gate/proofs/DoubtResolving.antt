@@ -13,32 +13,31 @@ use Rattle.crash_core.proofs.Doubles.{names_distinct}
 use Rattle.core_laws.specs.Stores.{Store, replay_at}
 use Rattle.core_laws.proofs.Answers.{answered-front}
 use Rattle.commit_gate.specs.Journals.{IsDoubtOf, IsJournal}
-use Rattle.core_laws.specs.Ties.{DoubtedChange, IsTied, IsTiedDoubt}
+use Rattle.core_laws.specs.Ties.{IsTied, IsTiedDoubt}
 use Rattle.core_laws.proofs.CommitTies.{landed_ties}
 use Rattle.core_laws.proofs.QuietTies.{dropped_ties}
 use Rattle.call_rules.specs.OpenLaws.{NotesLanding}
 use Rattle.call_rules.proofs.EventOpens.{landed-event}
-use Rattle.store_commit.specs.declared.gate.Doubted.{Doubted}
-use Rattle.store_commit.specs.Changes.{change_of, entries_after}
+use Rattle.crash_core.specs.declared.change.DoubtedChange.{DoubtedChange}
 use Rattle.store_commit.specs.Gates.{DoubtStands, GateValue, IsDoubtOf as IsDoubtOfGate}
 use Rattle.store_commit.specs.Sides.{Sides}
 use Rattle.store_commit.specs.View.{DirView}
 use Rattle.commit_gate.specs.declared.guarded_gate.Closing.{Closing}
-use Rattle.commit_gate.specs.GuardedGates.{AreHandlesTied, IsClosingTied, GateInvariant, change_in_doubt, closing_of}
+use Rattle.commit_gate.specs.GuardedGates.{AreHandlesTied, IsClosingTied, GateInvariant, closing_of}
 use Rattle.commit_gate.specs.CurrentFiles.{AreFilesCurrent, PutsCurrent}
 use Rattle.commit_gate.specs.Settled.{Closes}
 use Rattle.commit_gate.proofs.CurrentFiles.{kept_current, landed_current}
 
 -- the doubt that is there
-pub the-doubt : (o : Option Doubted) → IsSome o → (d : Doubted) × (o ≡ Some d)
+pub the-doubt : (o : Option DoubtedChange) → IsSome o → (d : DoubtedChange) × (o ≡ Some d)
 the-doubt (Some d) has = (d, refl)
 the-doubt None has = absurd (true≢false (sym has))
 
-pub the-resolve : (P : Doubted → Type 0) (o : Option Doubted) (d : Doubted) → o ≡ Some d → IfSome o P → P d
-the-resolve P o d is if_some = subst (λ (x : Option Doubted). IfSome x P) is if_some
+pub the-resolve : (P : DoubtedChange → Type 0) (o : Option DoubtedChange) (d : DoubtedChange) → o ≡ Some d → IfSome o P → P d
+the-resolve P o d is if_some = subst (λ (x : Option DoubtedChange). IfSome x P) is if_some
 
 -- while a commit is in doubt, the entries have names of their own
-pub doubted-distinct : (g : Sides) (o : Option Doubted) (d : Doubted) → o ≡ Some d → DoubtStands g o → AreDistinct g.dir.entries
+pub doubted-distinct : (g : Sides) (o : Option DoubtedChange) (d : DoubtedChange) → o ≡ Some d → DoubtStands g o → AreDistinct g.dir.entries
 doubted-distinct g o d is stands =
     let of : IsDoubtOfGate g d = subst (DoubtStands g) is stands in
     names_distinct g.dir.entries (ap (λ (n : ℕ). first_double g.dir.entries 0 n) of.stands.entries.whole ∙ of.stands.entries.apart)
@@ -48,24 +47,24 @@ closes-landing : (old new : TableState) (session : ℕ) (call : Call) → Closes
 closes-landing old new session (Delete handle) closes = closes
 closes-landing old new session call closes = closes
 
-module _ {F R : Type 0} (store : Store) (gate : GateValue F R) (knows : GateView) (closing : Option Closing) (d : Doubted) (doubted : gate.doubt ≡ Some d) (guarded : GateInvariant store gate knows closing) where
+module _ {F R : Type 0} (store : Store) (gate : GateValue F R) (knows : GateView) (closing : Option Closing) (d : DoubtedChange) (doubted : gate.doubt ≡ Some d) (guarded : GateInvariant store gate knows closing) where
   abbrev own : DoubtedChange
-  own = record { number = d.number; change = change_of d.change }
+  own = record { number = d.number; change = d.change }
 
   abbrev entries : List (Option DirEntry)
   entries = gate.dir.dir.entries
 
   tied-so : IsTied store knows entries gate.counter (Some own)
-  tied-so = subst (λ (o : Option Doubted). IsTied store knows entries gate.counter (change_in_doubt o)) doubted guarded.tied
+  tied-so = subst (λ (o : Option DoubtedChange). IsTied store knows entries gate.counter o) doubted guarded.tied
 
   pub doubt-tied : IsTiedDoubt store knows entries own
   doubt-tied = tied-so.doubt
 
   closing-so : IsClosingTied store knows (Some d) closing
-  closing-so = subst (λ (o : Option Doubted). IsClosingTied store knows o closing) doubted guarded.closes
+  closing-so = subst (λ (o : Option DoubtedChange). IsClosingTied store knows o closing) doubted guarded.closes
 
   puts-current : PutsCurrent own.change
-  puts-current = the-resolve (λ x. PutsCurrent (change_of x.change)) gate.doubt d doubted guarded.current.put
+  puts-current = the-resolve (λ x. PutsCurrent x.change) gate.doubt d doubted guarded.current.put
 
   -- under each tamper scenario the replay has it open
   pub doubt-held : IsDoubtOf store knows d.number
@@ -85,19 +84,19 @@ module _ {F R : Type 0} (store : Store) (gate : GateValue F R) (knows : GateView
   -- The landing: the entries have the change, the counter is its number, and the handle is closed.
   module _ (next : GateValue F R) (counted : next.counter ≡ d.number) (calm : next.doubt ≡ None) (tsk : next.dir.dir.tsk ≡ gate.dir.dir.tsk)
       (format : next.dir.dir.root.format ≡ gate.dir.dir.root.format) (key : next.host.key ≡ gate.host.key) where
-    pub landed-guarded : next.dir.dir.entries ≡ entries_after entries d.change → AreDistinct entries → Closes closing gate.open_handles next.open_handles
+    pub landed-guarded : next.dir.dir.entries ≡ changed entries d.change → AreDistinct entries → Closes closing gate.open_handles next.open_handles
         → IsJournal store (with_record (landing_of d.number) knows) → GateInvariant store next (with_record (landing_of d.number) knows) None
     landed-guarded is distinct closes journal =
         let view = with_record (landing_of d.number) knows in
         record {
           journal = journal;
           tied =
-              subst (λ (p : List (Option DirEntry) × ℕ × Option Doubted). IsTied store view p.0 p.1 (change_in_doubt p.2)) (λ i. (sym is i, sym counted i, sym calm i))
+              subst (λ (p : List (Option DirEntry) × ℕ × Option DoubtedChange). IsTied store view p.0 p.1 p.2) (λ i. (sym is i, sym counted i, sym calm i))
               (landed_ties store knows entries gate.counter own tied-so);
           handles =
               subst (λ (l : List (Option DirEntry)). AreHandlesTied store view l next.open_handles) (sym is)
               (landed-handles next.open_handles distinct closes);
-          closes = subst (λ (o : Option Doubted). IsClosingTied store view o None) (sym calm) refl;
+          closes = subst (λ (o : Option DoubtedChange). IsClosingTied store view o None) (sym calm) refl;
           directory_key = tsk ∙ guarded.directory_key;
           card_key = key ∙ guarded.card_key;
           current = landed_current gate.dir.dir next.dir.dir gate.doubt guarded.current own.change puts-current format is next.doubt calm;
@@ -113,14 +112,14 @@ module _ {F R : Type 0} (store : Store) (gate : GateValue F R) (knows : GateView
         record {
           journal = journal;
           tied =
-              subst (λ (p : List (Option DirEntry) × ℕ × Option Doubted). IsTied store view p.0 p.1 (change_in_doubt p.2)) (λ i. (sym is i, sym counted i, sym calm i))
+              subst (λ (p : List (Option DirEntry) × ℕ × Option DoubtedChange). IsTied store view p.0 p.1 p.2) (λ i. (sym is i, sym counted i, sym calm i))
               (dropped_ties store knows entries gate.counter (Some own) tied-so);
           handles = subst (λ (p : List (Option DirEntry) × TableState). AreHandlesTied store view p.0 p.1) (λ i. (sym is i, sym same i)) guarded.handles;
-          closes = subst (λ (o : Option Doubted). IsClosingTied store view o None) (sym calm) refl;
+          closes = subst (λ (o : Option DoubtedChange). IsClosingTied store view o None) (sym calm) refl;
           directory_key = tsk ∙ guarded.directory_key;
           card_key = key ∙ guarded.card_key;
           current = kept_current gate.dir.dir next.dir.dir gate.doubt guarded.current next.doubt format is
-              (subst (λ (o : Option Doubted). IfSome o (λ x. PutsCurrent (change_of x.change))) (sym calm) tt);
+              (subst (λ (o : Option DoubtedChange). IfSome o (λ x. PutsCurrent x.change)) (sym calm) tt);
         }
 
 -- Nothing that the ties speak of changed.
@@ -129,11 +128,11 @@ pub same-guarded : {F R : Type 0} (store : Store) (gate next : GateValue F R) (k
 same-guarded store gate next knows closing dir counted doubt handles key guarded = record {
   journal = guarded.journal;
   tied =
-      subst (λ (p : List (Option DirEntry) × ℕ × Option Doubted). IsTied store knows p.0 p.1 (change_in_doubt p.2)) (λ i. (sym (ap (λ d. d.entries) dir) i, sym counted i, sym doubt i))
+      subst (λ (p : List (Option DirEntry) × ℕ × Option DoubtedChange). IsTied store knows p.0 p.1 p.2) (λ i. (sym (ap (λ d. d.entries) dir) i, sym counted i, sym doubt i))
       guarded.tied;
   handles = subst (λ (p : List (Option DirEntry) × TableState). AreHandlesTied store knows p.0 p.1) (λ i. (sym (ap (λ d. d.entries) dir) i, sym handles i)) guarded.handles;
-  closes = subst (λ (o : Option Doubted). IsClosingTied store knows o closing) (sym doubt) guarded.closes;
+  closes = subst (λ (o : Option DoubtedChange). IsClosingTied store knows o closing) (sym doubt) guarded.closes;
   directory_key = ap (λ d. d.tsk) dir ∙ guarded.directory_key;
   card_key = key ∙ guarded.card_key;
-  current = subst (λ (p : DirView × Option Doubted). AreFilesCurrent p.0 p.1) (λ i. (sym dir i, sym doubt i)) guarded.current;
+  current = subst (λ (p : DirView × Option DoubtedChange). AreFilesCurrent p.0 p.1) (λ i. (sym dir i, sym doubt i)) guarded.current;
 }

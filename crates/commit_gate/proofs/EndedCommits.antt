@@ -13,7 +13,9 @@ use Rattle.history_seats.specs.Records.{HistoryRecord, Version}
 use Rattle.history_seats.specs.Changes.{TagVersions, with_record}
 use Rattle.history_seats.specs.Tags.{HasRightTag}
 use Rattle.history_seats.specs.Views.{GateView, SlotView}
-use Rattle.crash_core.specs.EntryChanges.{Clear, EntryChange, Put, changed}
+use Rattle.crash_core.specs.declared.change.EntryChange.{EntryChange}
+use Rattle.crash_core.specs.declared.change.EntryChange.TheVariants.{Clear, Put}
+use Rattle.crash_core.specs.EntryChanges.{changed}
 use Rattle.core_laws.specs.Listed.{IsTagOfChange}
 use Rattle.core_laws.specs.TamperScenarios.{TamperScenario}
 use Rattle.core_laws.specs.Stores.{Store, replay_at}
@@ -26,7 +28,7 @@ use Rattle.core_laws.proofs.CommitTies.{doubtful_ties, made_ties}
 use Rattle.core_laws.proofs.LegalCommits.{commits_legal}
 use Rattle.core_laws.proofs.RightTags.{commits_right}
 use Rattle.core_laws.proofs.Told.{tied_make}
-use Rattle.commit_gate.specs.Commits.{IsDueUnder, IsReadyCommit, call_record, made_versions, tag_of}
+use Rattle.commit_gate.specs.Commits.{IsDueUnder, IsReadyCommit, file_record, made_versions, tag_of}
 use Rattle.commit_gate.proofs.FairCommits.{commit_under}
 
 -- the tag of one that was made is of the same object
@@ -72,21 +74,21 @@ module _ (store : Store) (view : GateView) (entries : List (Option DirEntry)) (c
     object = left_same store scenario view.all session call change slot versions (made_versions versions) versions.doubted due.object;
   }
 
-  pub made_right : (n : ℕ) → HasRightTag store.mounted view.all (call_record session number call reply (Made n) slot (made_versions versions))
+  pub made_right : (n : ℕ) → HasRightTag store.mounted view.all (file_record session number call reply (Made n) slot (made_versions versions))
   made_right n = (commits_right store view entries counter None session number call reply n named change tied).made made_commit refl
 
-  pub doubtful_right : (told : Reply) (n : ℕ) → HasRightTag store.mounted view.all (call_record session number call told (Doubtful n) slot versions)
+  pub doubtful_right : (told : Reply) (n : ℕ) → HasRightTag store.mounted view.all (file_record session number call told (Doubtful n) slot versions)
   doubtful_right told n = (commits_right store view entries counter None session number call told n committable change tied).doubtful ready.commit ready.given
 
   module _ (fits : counter + 1 < 2 ^ 32) where
-    pub made_fair : (scenario : TamperScenario) → IsFairAt store scenario view.all (call_record session number call reply (Made (counter + 1)) slot (made_versions versions))
+    pub made_fair : (scenario : TamperScenario) → IsFairAt store scenario view.all (file_record session number call reply (Made (counter + 1)) slot (made_versions versions))
     made_fair scenario answered owed = elim (ready.due scenario answered (owed slot.file refl)) [
       | inl due ↦ inl (inl ((commits_legal store scenario view entries counter None tied session number call change named known fits).made (made_under scenario answered due) refl reply due.replied))
       | inr ends ↦ inr (ends reply (Made (counter + 1)) (made_versions versions) refl)
     ]
 
     pub doubtful_fair : (cause : Cause) → file_at_fault cause ≡ None → (scenario : TamperScenario)
-        → IsFairAt store scenario view.all (call_record session number call (NotAvailable cause) (Doubtful (counter + 1)) slot versions)
+        → IsFairAt store scenario view.all (file_record session number call (NotAvailable cause) (Doubtful (counter + 1)) slot versions)
     doubtful_fair cause none scenario answered owed = elim (ready.due scenario answered (owed slot.file refl)) [
       | inl due ↦ inl (inl ((commits_legal store scenario view entries counter None tied session number call change committable known fits).doubtful
           (commit_under store view entries counter session number call reply change slot versions kept tied known ready scenario answered due) ready.given cause none))
@@ -100,9 +102,9 @@ module _ (store : Store) (view : GateView) (entries : List (Option DirEntry)) (c
       tied_make store scenario view entries counter None tied answered (kept.in_step scenario answered).now session call change committable versions.doubted ready.commit (ready.on scenario answered) due
 
   pub doubtful_tied : (told : Reply) (n : ℕ) → view.decided ≤ length view.all
-      → IsTied store (with_record (call_record session number call told (Doubtful n) slot versions) view) entries counter (Some (record { number = n; change = change }))
+      → IsTied store (with_record (file_record session number call told (Doubtful n) slot versions) view) entries counter (Some (record { number = n; change = change }))
   doubtful_tied told n within =
       doubtful_ties store view entries counter None session number call told n committable change (doubtful_right told n) within ready.commit makes_entries tied
 
-  pub made_tied : (n : ℕ) → IsTied store (with_record (call_record session number call reply (Made n) slot (made_versions versions)) view) (changed entries change) n None
+  pub made_tied : (n : ℕ) → IsTied store (with_record (file_record session number call reply (Made n) slot (made_versions versions)) view) (changed entries change) n None
   made_tied n = made_ties store view entries counter None session number call reply n named change (made_right n) made_commit tied

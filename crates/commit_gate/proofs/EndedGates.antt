@@ -13,10 +13,9 @@ use Rattle.history_seats.specs.Changes.{TagVersions, with_record}
 use Rattle.history_seats.specs.Views.{GateView, SlotView}
 use Rattle.core_laws.specs.Stores.{Store}
 use Rattle.commit_gate.specs.Journals.{IsJournal}
-use Rattle.store_commit.specs.declared.change.EntryChange.{EntryChange}
+use Rattle.crash_core.specs.declared.change.EntryChange.{EntryChange}
 use Rattle.store_commit.specs.declared.change.CommitEnd.{CommitEnd}
 use Rattle.store_commit.specs.declared.change.CommitEnd.TheVariants.{Made, Dropped, Doubtful, Spent}
-use Rattle.store_commit.specs.Changes.{change_of}
 use Rattle.store_commit.specs.Ends.{Leaves, Throughout}
 use Rattle.store_commit.specs.Gates.{GateValue, doubt_left, gate_sides}
 use Rattle.open_table.specs.HandleChanges.{NotesReply}
@@ -32,7 +31,7 @@ use Rattle.commit_gate.proofs.DoubtResolving.{same-guarded}
 module _ {F R : Type 0} (file : F → FileState) (port : R → PortState) (store : Store) (old mid new : GateValue F R) (view : GateView) (closing : Option Closing)
     (guarded : GateInvariant store old view closing) (idle : old.doubt ≡ None) (within : view.decided ≤ length view.all) (session number : ℕ)
     (known : session < length store.mounted.applications) (call : Call) (reply : Reply) (change : EntryChange) (slot : SlotView) (versions : TagVersions)
-    (ready : IsReadyCommit store view old.dir.dir.entries old.counter session number call reply (change_of change) slot versions)
+    (ready : IsReadyCommit store view old.dir.dir.entries old.counter session number call reply change slot versions)
     (through : Throughout (gate_sides file port old) (gate_sides file port mid)) (handles : mid.open_handles ≡ old.open_handles)
     (same : new ≡ record mid { open_handles = new.open_handles }) where
   abbrev same_entries : new.dir.dir.entries ≡ mid.dir.dir.entries

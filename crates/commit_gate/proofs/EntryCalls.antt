@@ -7,13 +7,12 @@ use Rattle.core_laws.specs.Stores.{replay_at}
 use Rattle.core_laws.proofs.Mending.{some_same}
 use Rattle.core_laws.proofs.Told.{tied_tell}
 use Rattle.commit_gate.specs.EntryCalls.{EntryCallsAreOnFiles}
-use Rattle.commit_gate.specs.GuardedGates.{change_in_doubt}
 use Rattle.commit_gate.specs.ReplyLaws.{DependsOnFile}
 
 pub entry_calls : (F R : Type 0) → EntryCallsAreOnFiles F R
 entry_calls F R store gate knows closing guarded are low session index call e v declared at gives scenario answered by depends =
     let mapped = (guarded.journal.in_step scenario answered).now in
-    let fact = (tied_tell store scenario knows gate.dir.dir.entries gate.counter (change_in_doubt gate.doubt) guarded.tied are answered mapped).facts.each index e at in
+    let fact = (tied_tell store scenario knows gate.dir.dir.entries gate.counter gate.doubt guarded.tied are answered mapped).facts.each index e at in
     let same : fact.version ≡ v = some_same fact.version v (sym fact.gives ∙ gives) in
     let own : IsVersionOf e v = subst (IsVersionOf e) same fact.own in
     record {

@@ -1,5 +1,6 @@
 -- An event that changes nothing is a step of the core machine.
 use Rattle.std.proofs.Common.{◌≡◌, ℕ, Bool, true, false, true≢false, inl, inr, List, Option, Some, None, refl, sym, ap, ◌∙◌, subst}
+use Rattle.store_model.specs.declared.event.Mark.TheVariants.{Unchanged}
 use Rattle.tee_types.specs.declared.call.Call.{Call}
 use Rattle.tee_types.specs.declared.reply.Reply.{Reply}
 use Rattle.tee_types.specs.declared.reply.Reply.TheVariants.{Misuse, NotAvailable}
@@ -12,7 +13,7 @@ use Rattle.store_model.specs.Record.{Tag, file_of}
 use Rattle.store_model.specs.ReplayState.{ReplayState, is_undone, keeps_doubt}
 use Rattle.history_seats.specs.Records.{Version}
 use Rattle.history_seats.specs.Views.{GateView}
-use Rattle.history_seats.specs.Changes.{with_record}
+use Rattle.history_seats.specs.Changes.{with_record, call_record}
 use Rattle.crash_core.specs.CoreState.{Phase}
 use Rattle.crash_core.specs.CoreSteps.{Append}
 use Rattle.core_laws.specs.GateParts.{GatePart}
@@ -21,12 +22,12 @@ use Rattle.core_laws.proofs.GateStepLaws.{append_unchanged_is_step, one_step}
 use Rattle.core_laws.specs.TamperScenarios.{TamperScenario}
 use Rattle.core_laws.specs.Stores.{Store, replay_at}
 use Rattle.core_laws.proofs.Answers.{replay_state-snoc}
-use Rattle.store_commit.specs.declared.gate.Doubted.{Doubted}
+use Rattle.crash_core.specs.declared.change.DoubtedChange.{DoubtedChange}
 use Rattle.store_commit.specs.Sides.{Sides}
 use Rattle.commit_gate.specs.FinishedPhases.{phase_under}
 use Rattle.commit_gate.specs.CoreGates.{gate_part, pending_of, sealed_in, takes_of}
 use Rattle.commit_gate.specs.Resting.{IsGateOf, StepsTo, resting_part}
-use Rattle.commit_gate.specs.EventSteps.{UnchangedEventsAreSteps, unchanged_event}
+use Rattle.commit_gate.specs.EventSteps.{UnchangedEventsAreSteps}
 
 -- a reply that keeps a doubt does nothing
 undone : (reply : Reply) → keeps_doubt reply ≡ true → is_undone reply ≡ true
@@ -45,10 +46,10 @@ module _ (store : Store) (scenario : TamperScenario) (handed : Option Handed) (g
   here = replay_at store scenario view.all
 
   abbrev seen : GateView
-  seen = with_record (unchanged_event session number call reply tag) view
+  seen = with_record (call_record session number call reply Unchanged tag) view
 
   abbrev Legal : Type 0
-  Legal = IsLegalEvent scenario.tampered here (unchanged_event session number call reply tag).event (file_of {Root = Version} (unchanged_event session number call reply tag))
+  Legal = IsLegalEvent scenario.tampered here (call_record session number call reply Unchanged tag).event (file_of {Root = Version} (call_record session number call reply Unchanged tag))
 
   calm_steps : IsGateOf store g None holds card → Legal → StepsTo store scenario handed (resting_part store scenario g None holds card view) g None holds seen
   calm_steps gate legal =
@@ -56,7 +57,7 @@ module _ (store : Store) (scenario : TamperScenario) (handed : Option Handed) (g
       record {
         card = card;
         told = gate.told;
-        steps = one_step phase handed start (Append (unchanged_event session number call reply tag)) (resting_part store scenario g None holds card seen)
+        steps = one_step phase handed start (Append (call_record session number call reply Unchanged tag)) (resting_part store scenario g None holds card seen)
             (append_unchanged_is_step phase handed start session number call reply tag legal (inl refl));
       }
 
@@ -67,15 +68,15 @@ module _ (store : Store) (scenario : TamperScenario) (handed : Option Handed) (g
 
     doubt_stays : (replay_at store scenario seen.all).doubt ≡ here.doubt
     doubt_stays =
-        ap (λ (s : ReplayState). s.doubt) (replay_state-snoc store scenario view.all (unchanged_event session number call reply tag))
+        ap (λ (s : ReplayState). s.doubt) (replay_state-snoc store scenario view.all (call_record session number call reply Unchanged tag))
         ∙ ap (λ (b : Bool). elim b as (λ _. Option Doubt) [ true ↦ here.doubt | false ↦ None ]) keeps
 
-    doubted_steps : (d : Doubted) → IsGateOf store g (Some d) holds card → Legal → StepsTo store scenario handed (resting_part store scenario g (Some d) holds card view) g (Some d) holds seen
+    doubted_steps : (d : DoubtedChange) → IsGateOf store g (Some d) holds card → Legal → StepsTo store scenario handed (resting_part store scenario g (Some d) holds card view) g (Some d) holds seen
     doubted_steps d gate legal =
         let start : GatePart = resting_part store scenario g (Some d) holds card view in
         let left : GatePart = gate_part g card (takes_of holds) (pending_of (Some d) here.doubt (sealed_in g card)) None seen in
         let done : GateSteps phase handed start left =
-        one_step phase handed start (Append (unchanged_event session number call reply tag)) left
+        one_step phase handed start (Append (call_record session number call reply Unchanged tag)) left
         (append_unchanged_is_step phase handed start session number call reply tag legal (inr state_stays)) in
         record {
           card = card;

@@ -9,7 +9,7 @@ use Rattle.store_model.specs.ReplayState.{is_undone}
 use Rattle.dir_records.specs.declared.entry.DirEntry.{DirEntry}
 use Rattle.history_seats.specs.Changes.{TagVersions}
 use Rattle.history_seats.specs.Views.{GateView, SlotView}
-use Rattle.crash_core.specs.EntryChanges.{EntryChange}
+use Rattle.crash_core.specs.declared.change.EntryChange.{EntryChange}
 use Rattle.core_laws.specs.TamperScenarios.{TamperScenario}
 use Rattle.core_laws.specs.Stores.{Store, replay_at}
 use Rattle.core_laws.specs.Answered.{AreAnswered, IsFairAt}
@@ -19,7 +19,7 @@ use Rattle.core_laws.specs.CommitMaps.{IsCommitUnder}
 use Rattle.core_laws.specs.EventAnswers.{IsUnmade}
 use Rattle.core_laws.proofs.CommitTags.{commit_tagged}
 use Rattle.core_laws.proofs.LegalEvents.{unmade_legal}
-use Rattle.commit_gate.specs.Commits.{IsDueUnder, IsReadyCommit, call_record, tag_of, unmade_versions}
+use Rattle.commit_gate.specs.Commits.{IsDueUnder, IsReadyCommit, file_record, tag_of, unmade_versions}
 
 -- why a commit was not made says so of the machine's counter, too
 unmade_there : (there counter : ℕ) (reply : Reply) → there ≡ counter → IsUnmade counter reply → IsUnmade there reply
@@ -47,7 +47,7 @@ module _ (store : Store) (view : GateView) (entries : List (Option DirEntry)) (c
   }
 
   pub unmade_fair : (told : Reply) → IsUnmade counter told → fault_in_reply told ≡ None → (scenario : TamperScenario)
-      → IsFairAt store scenario view.all (call_record session number call told Unchanged slot (unmade_versions versions))
+      → IsFairAt store scenario view.all (file_record session number call told Unchanged slot (unmade_versions versions))
   unmade_fair told unmade none scenario answered owed = elim (ready.due scenario answered (owed slot.file refl)) [
     | inl due ↦ inl (inl (unmade_legal store scenario view.all session number call told (Some (tag_of slot (unmade_versions versions))) known due.due
         (unmade_there (replay_at store scenario view.all).counter counter told (tied.counter scenario answered) unmade)

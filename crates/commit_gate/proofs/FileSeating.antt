@@ -5,11 +5,11 @@ use Rattle.history_seats.specs.Mounts.{Mounted}
 use Rattle.history_seats.specs.Views.{GateView}
 use Rattle.core_laws.specs.Stores.{Store}
 use Rattle.commit_gate.specs.Journals.{IsJournal}
-use Rattle.core_laws.specs.Ties.{DoubtedChange, IsDoubtTied}
-use Rattle.store_commit.specs.declared.gate.Doubted.{Doubted}
+use Rattle.core_laws.specs.Ties.{IsDoubtTied}
+use Rattle.crash_core.specs.declared.change.DoubtedChange.{DoubtedChange}
 use Rattle.store_commit.specs.Gates.{GateValue}
 use Rattle.commit_gate.specs.declared.guarded_gate.Closing.{Closing}
-use Rattle.commit_gate.specs.GuardedGates.{IsClosingTied, GateInvariant, change_in_doubt}
+use Rattle.commit_gate.specs.GuardedGates.{IsClosingTied, GateInvariant}
 
 module _ (store : Store) (old : GateView) (mounted : Option Mounted) (files : List ℕ) where
   abbrev seated : GateView
@@ -19,7 +19,7 @@ module _ (store : Store) (old : GateView) (mounted : Option Mounted) (files : Li
   seated-doubt entries None tied = tied
   seated-doubt entries (Some d) tied = record { is_open = tied.is_open; place = tied.place; landed = tied.landed; stands = tied.stands }
 
-  seated-closes : (doubt : Option Doubted) (closing : Option Closing) → IsClosingTied store old doubt closing → IsClosingTied store seated doubt closing
+  seated-closes : (doubt : Option DoubtedChange) (closing : Option Closing) → IsClosingTied store old doubt closing → IsClosingTied store seated doubt closing
   seated-closes None closing closes = closes
   seated-closes (Some d) closing closes = closes
 
@@ -34,7 +34,7 @@ module _ (store : Store) (old : GateView) (mounted : Option Mounted) (files : Li
       real = guarded.tied.real;
       counter = guarded.tied.counter;
       rising = guarded.tied.rising;
-      doubt = seated-doubt gate.dir.dir.entries (change_in_doubt gate.doubt) guarded.tied.doubt;
+      doubt = seated-doubt gate.dir.dir.entries gate.doubt guarded.tied.doubt;
     };
     handles = guarded.handles;
     closes = seated-closes gate.doubt closing guarded.closes;

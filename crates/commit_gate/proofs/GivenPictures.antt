@@ -32,14 +32,13 @@ use Rattle.core_laws.specs.Stores.{Store, entries_at, entry_named}
 use Rattle.core_laws.specs.TamperScenarios.{TamperScenario}
 use Rattle.core_laws.specs.Ties.{IsTiedDoubt}
 use Rattle.core_laws.proofs.Versions.{entry_is_known, version_shows}
-use Rattle.store_commit.specs.declared.gate.Doubted.{Doubted}
-use Rattle.store_commit.specs.Changes.{entries_after}
+use Rattle.crash_core.specs.declared.change.DoubtedChange.{DoubtedChange}
+use Rattle.crash_core.specs.EntryChanges.{changed}
 use Rattle.store_commit.specs.EntryForms.{AreEntriesOf}
 use Rattle.store_commit.specs.Gates.{IsDoubtOf}
 use Rattle.store_commit.specs.Held.{IsDurable}
 use Rattle.store_commit.specs.Sides.{IsSettled, Names, Sides}
 use Rattle.commit_gate.specs.ClosedStores.{IsTiedStore, MountsGiven, TiedStoresMount, object_given, store_files}
-use Rattle.commit_gate.specs.CoreTies.{doubted_change}
 use Rattle.commit_gate.specs.FinishedPhases.{phase_under}
 use Rattle.commit_gate.proofs.ClosedStores.{slot_is, store_directory, store_slot}
 use Rattle.commit_gate.proofs.HeldDirectories.{held_reads}
@@ -54,7 +53,7 @@ given_same : (given : Versions) (o : Option Entry) → object_from own given o �
 given_same given None = refl
 given_same given (Some e) = refl
 
-module _ (store : Store) (scenario : TamperScenario) (g : Sides) (doubt : Option Doubted) (holds : List (Option ℕ)) (card : CardState) (view : GateView) (slots : ℕ → SlotPart)
+module _ (store : Store) (scenario : TamperScenario) (g : Sides) (doubt : Option DoubtedChange) (holds : List (Option ℕ)) (card : CardState) (view : GateView) (slots : ℕ → SlotPart)
     (t : IsTiedStore store scenario g doubt holds card view slots) (picture : Picture) (is : IsPictureOf (store_files g slots) card picture) (trusted : IsTrusted (phase_under store scenario) directory_file) where
   abbrev phase : Phase
   phase = phase_under store scenario
@@ -129,11 +128,11 @@ module _ (store : Store) (scenario : TamperScenario) (g : Sides) (doubt : Option
       g.dir.root (reads_held g.dir.root g.dir.tree g.dir.entries current durable) g.counter names
 
   -- The directory of the commit in doubt.
-  mounts_landed : (d : Doubted) (of : IsDoubtOf g d) → IsTiedDoubt store view g.dir.entries (doubted_change d) → Names t.gate.told.own of.next.root (g.counter + 1)
+  mounts_landed : (d : DoubtedChange) (of : IsDoubtOf g d) → IsTiedDoubt store view g.dir.entries d → Names t.gate.told.own of.next.root (g.counter + 1)
       → MountsGiven phase picture (landed_version store.mounted view.all) (as_landed (entries_at store view.all)).now
   mounts_landed d of tied names =
       let reads : DirectoryReads store.keys g.file of.next.root of.next.entries = reads_held of.next.root of.next.tree of.next.entries (of.stands.next_form.version, of.stands.same_format ∙ t.gate.current) of.stands.next_held in
-      mounts_given (entries_after g.dir.entries d.change) (as_landed (entries_at store view.all)).now (landed_version store.mounted view.all) tied.landed
+      mounts_given (changed g.dir.entries d.change) (as_landed (entries_at store view.all)).now (landed_version store.mounted view.all) tied.landed
       (subst AreEntriesOf of.entries of.stands.next_entries) (landed_known store scenario g view t.mounted d.number tied.is_open)
       of.next.root (subst (λ (l : List (Option DirEntry)). DirectoryReads store.keys g.file of.next.root l) of.entries reads) (g.counter + 1) names
 

@@ -6,9 +6,8 @@ use Rattle.crash_core.specs.Appends.{freed}
 use Rattle.crash_core.specs.CoreState.{put}
 use Rattle.crash_core.proofs.Lists.{put_else, put_here}
 use Rattle.core_laws.proofs.Mending.{none_some, some_same}
-use Rattle.store_commit.specs.declared.change.EntryChange.{EntryChange}
-use Rattle.store_commit.specs.declared.change.EntryChange.TheVariants.{Put, Clear}
-use Rattle.store_commit.specs.Changes.{change_of}
+use Rattle.crash_core.specs.declared.change.EntryChange.{EntryChange}
+use Rattle.crash_core.specs.declared.change.EntryChange.TheVariants.{Put, Clear}
 use Rattle.store_commit.specs.Holds.{AreHolds, EndsHoldOf, HoldsWithout, file_held, unless_file}
 use Rattle.commit_gate.specs.CoreGates.{holder_from, is_hold_on, takes_of}
 
@@ -92,6 +91,6 @@ module _ (entries more : List (Option DirEntry)) (before after : List (Option �
   ]
 
   -- a commit that is made frees the file that it puts
-  pub takes_freed : (change : EntryChange) → EndsHoldOf change before after → takes_of after ≡ freed (change_of change) (takes_of before)
+  pub takes_freed : (change : EntryChange) → EndsHoldOf change before after → takes_of after ≡ freed change (takes_of before)
   takes_freed (Put index e) ends = let same = freed_at e.file ends in (λ j n. same n j)
   takes_freed (Clear index) same = ap takes_of same

@@ -18,11 +18,11 @@ use Rattle.call_rules.proofs.MappedShapes.{mapped_shape}
 use Rattle.call_rules.proofs.ReplayHandles.{well_replay-answered}
 use Rattle.call_rules.specs.OpenHandles.{AreOpen}
 use Rattle.core_laws.proofs.LastDoubts.{doubts_held}
-use Rattle.store_commit.specs.declared.gate.Doubted.{Doubted}
+use Rattle.crash_core.specs.declared.change.DoubtedChange.{DoubtedChange}
 use Rattle.store_commit.specs.Gates.{DoubtStands, GateValue}
 use Rattle.store_commit.specs.Sides.{Sides}
 use Rattle.commit_gate.specs.declared.guarded_gate.Closing.{Closing}
-use Rattle.commit_gate.specs.GuardedGates.{GateInvariant, change_in_doubt}
+use Rattle.commit_gate.specs.GuardedGates.{GateInvariant}
 use Rattle.commit_gate.specs.KnownMachine.{GuardedGatesKnow, ShownSessionsStand}
 
 pub guarded_know : (F R : Type 0) → GuardedGatesKnow F R
@@ -52,14 +52,14 @@ directory-entries entries are =
     }
 
 -- a gate's entries are such, whether a commit is in doubt or none is
-pub gate-entries : (g : Sides) (o : Option Doubted) → DoubtStands g o → AreEntries g.dir.entries
+pub gate-entries : (g : Sides) (o : Option DoubtedChange) → DoubtStands g o → AreEntries g.dir.entries
 gate-entries g None settled = directory-entries g.dir.entries settled.entries
 gate-entries g (Some d) of = directory-entries g.dir.entries of.stands.entries
 
 -- While a doubt is open in the records, each replay has one open.
 pub guarded-held : {F R : Type 0} (store : Store) (gate : GateValue F R) (knows : GateView) (closing : Option Closing) → GateInvariant store gate knows closing → AreDoubtsHeld store knows
 guarded-held store gate knows closing guarded commit open_ scenario answered =
-    let own = doubts_held store knows gate.dir.dir.entries gate.counter (change_in_doubt gate.doubt) guarded.tied commit open_ scenario answered in
+    let own = doubts_held store knows gate.dir.dir.entries gate.counter gate.doubt guarded.tied commit open_ scenario answered in
     (own.0, own.1)
 
 -- The table's room has no part in what it tells.

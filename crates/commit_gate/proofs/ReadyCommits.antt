@@ -33,10 +33,10 @@ use Rattle.core_laws.proofs.QuietTies.{unchanged_ties}
 use Rattle.call_rules.specs.OpenLaws.{IsOpenedFile}
 use Rattle.call_rules.proofs.EventOpens.{unchanged-event}
 use Rattle.store_commit.specs.Gates.{GateValue}
-use Rattle.store_commit.specs.declared.gate.Doubted.{Doubted}
+use Rattle.crash_core.specs.declared.change.DoubtedChange.{DoubtedChange}
 use Rattle.commit_gate.specs.declared.guarded_gate.Closing.{Closing}
-use Rattle.commit_gate.specs.GuardedGates.{IsClosingTied, GateInvariant, change_in_doubt}
-use Rattle.commit_gate.specs.Commits.{IsCalm, call_record, tag_of, unmade_versions}
+use Rattle.commit_gate.specs.GuardedGates.{IsClosingTied, GateInvariant}
+use Rattle.commit_gate.specs.Commits.{IsCalm, file_record, tag_of, unmade_versions}
 
 -- a reply of what was not done adds and takes no handle
 pub notes_undone : (table : TableState) (file session : ℕ) (call : Call) (reply : Reply) → is_undone reply ≡ true → NotesReply table table file session call reply
@@ -53,7 +53,7 @@ opened_undone entries s session file call reply undone = tt
 -- A commit that was not made.
 module _ (store : Store) (view : GateView) (session number : ℕ) (call : Call) (reply : Reply) (slot : SlotView) (versions : TagVersions) where
   abbrev pub unmade : HistoryRecord
-  unmade = call_record session number call reply Unchanged slot (unmade_versions versions)
+  unmade = file_record session number call reply Unchanged slot (unmade_versions versions)
 
   pub unmade_tag : versions.committed ≡ given_version store.mounted view.all slot.file slot.generation → HasRightTag store.mounted view.all unmade
   unmade_tag given =
@@ -97,16 +97,16 @@ module _ {F R : Type 0} (store : Store) (gate : GateValue F R) (view : GateView)
       let entries = gate.dir.dir.entries in
       record {
         journal = journal;
-        tied = subst (λ (d : Option Doubted). IsTied store (with_record r view) entries gate.counter (change_in_doubt d)) (sym idle)
+        tied = subst (λ (d : Option DoubtedChange). IsTied store (with_record r view) entries gate.counter d) (sym idle)
             (unchanged_ties store view entries gate.counter None r refl (unmade_tag store view session number call reply slot versions given) tt
-            (subst (λ (d : Option Doubted). IsTied store view entries gate.counter (change_in_doubt d)) idle guarded.tied));
+            (subst (λ (d : Option DoubtedChange). IsTied store view entries gate.counter d) idle guarded.tied));
         handles = λ scenario answered.
             let front = answered-front store scenario view.all (r ∷ []) answered in
             unchanged-event store scenario view.all r answered entries gate.open_handles gate.open_handles (guarded.handles scenario front) session number 0 call reply
             (notes_undone gate.open_handles 0 session call reply undone) refl (subst (λ (n : ℕ). session < n) (sym (sessions_at store scenario view.all)) known)
             (opened_undone entries (replay_at store scenario view.all).state session 0 call reply undone);
-        closes = subst (λ (d : Option Doubted). IsClosingTied store (with_record r view) d closing) (sym idle)
-            (subst (λ (d : Option Doubted). IsClosingTied store view d closing) idle guarded.closes);
+        closes = subst (λ (d : Option DoubtedChange). IsClosingTied store (with_record r view) d closing) (sym idle)
+            (subst (λ (d : Option DoubtedChange). IsClosingTied store view d closing) idle guarded.closes);
         directory_key = guarded.directory_key;
         card_key = guarded.card_key;
         current = guarded.current;

@@ -24,16 +24,15 @@ use Rattle.commit_gate.specs.CallerSessions.{CallerSession}
 use Rattle.commit_gate.proofs.CallMoves.{doubtful_move, made_move}
 use Rattle.core_laws.specs.EventAnswers.{IsUnmade}
 use Rattle.core_laws.specs.Ties.{IsTied}
-use Rattle.store_commit.specs.declared.change.EntryChange.{EntryChange}
+use Rattle.crash_core.specs.declared.change.EntryChange.{EntryChange}
 use Rattle.store_commit.specs.declared.change.CommitEnd.{CommitEnd}
 use Rattle.store_commit.specs.declared.change.CommitEnd.TheVariants.{Made, Dropped, Doubtful, Spent}
 use Rattle.store_commit.specs.Causes.{CauseStands, Counted, EndCause}
-use Rattle.store_commit.specs.Changes.{change_of}
 use Rattle.store_commit.specs.Ends.{Leaves}
 use Rattle.store_commit.specs.Sides.{Sides}
 use Rattle.commit_gate.specs.declared.session_moves.SessionMove.{SessionMove}
 use Rattle.commit_gate.specs.declared.session_moves.SessionMove.TheVariants.{Stays, Opens, Replaces, Closes}
-use Rattle.commit_gate.specs.Commits.{IsCalm, IsReadyCommit, call_record, made_versions, unmade_versions}
+use Rattle.commit_gate.specs.Commits.{IsCalm, IsReadyCommit, file_record, made_versions, unmade_versions}
 use Rattle.commit_gate.specs.Ended.{MayAppend, MayEnd}
 use Rattle.commit_gate.specs.GateEnds.{IsCommitEnd}
 use Rattle.commit_gate.specs.SessionMoves.{moved_by}
@@ -81,15 +80,15 @@ commit_end old new change key before after Spent within leaves cause spent = spe
 
 -- a record with a right tag, whose reply accuses no object's file, fits
 fits_tagged : (store : Store) (view : GateView) (session number : ℕ) (call : Call) (told : Reply) (mark : Mark) (slot : SlotView) (versions : TagVersions) → view.mounted ≡ Some store.mounted
-    → fault_in_reply told ≡ None → HasRightTag store.mounted view.all (call_record session number call told mark slot versions) → IsFitting view (call_record session number call told mark slot versions)
+    → fault_in_reply told ≡ None → HasRightTag store.mounted view.all (file_record session number call told mark slot versions) → IsFitting view (file_record session number call told mark slot versions)
 fits_tagged store view session number call told mark slot versions mounted none right = record {
-  right = λ other is. subst (λ (m : Mounted). HasRightTag m view.all (call_record session number call told mark slot versions)) (some_same store.mounted other (sym mounted ∙ is)) right;
+  right = λ other is. subst (λ (m : Mounted). HasRightTag m view.all (file_record session number call told mark slot versions)) (some_same store.mounted other (sym mounted ∙ is)) right;
   tagged = record { fault = λ file is. absurd (none_some file (sym none ∙ is)); commit = λ commits_. refl };
 }
 
 module _ {E : Type 0} (store : Store) (view : GateView) (old new : Sides) (call : Call) (reply : Reply) (change : EntryChange) (slot : SlotView) (versions : TagVersions) (s : CallerSession E)
     (step : SessionMove) (kept : IsJournal store view) (tied : IsTied store view old.dir.entries old.counter None) (calm : IsCalm store view s)
-    (ready : IsReadyCommit store view old.dir.entries old.counter s.number s.made call reply (change_of change) slot versions)
+    (ready : IsReadyCommit store view old.dir.entries old.counter s.number s.made call reply change slot versions)
     (none : fault_in_reply reply ≡ None) (leaves_ : LeavesSession store view s.number call (moved_by s.state step)) where
   may_made : (n : ℕ) → n ≡ old.counter + 1 → old.counter + 1 < 2 ^ 32 → MayEnd store view (Made n) call reply step slot versions s
   may_made n next fits =
@@ -97,11 +96,11 @@ module _ {E : Type 0} (store : Store) (view : GateView) (old new : Sides) (call 
       let after : CallerSession E = record s { state = moved_by s.state step } in
       record {
         fitting = fits_tagged store view s.number s.made call reply (MarkedMade n) slot (made_versions versions) kept.mounted none
-            (made_right store view old.dir.entries old.counter s.number s.made call reply (change_of change) slot versions kept tied known ready n);
+            (made_right store view old.dir.entries old.counter s.number s.made call reply change slot versions kept tied known ready n);
         fair = λ scenario.
-            subst (λ (m : ℕ). IsFairAt store scenario view.all (call_record s.number s.made call reply (MarkedMade m) slot (made_versions versions))) (sym next)
-            (made_fair store view old.dir.entries old.counter s.number s.made call reply (change_of change) slot versions kept tied known ready fits scenario);
-        moves = made_move E store view (call_record s.number s.made call reply (MarkedMade n) slot (made_versions versions)) call reply n after calm.within refl calm.settled
+            subst (λ (m : ℕ). IsFairAt store scenario view.all (file_record s.number s.made call reply (MarkedMade m) slot (made_versions versions))) (sym next)
+            (made_fair store view old.dir.entries old.counter s.number s.made call reply change slot versions kept tied known ready fits scenario);
+        moves = made_move E store view (file_record s.number s.made call reply (MarkedMade n) slot (made_versions versions)) call reply n after calm.within refl calm.settled
             (record { before = s.state; was = calm.caller; application = moved_application s.state step; moves = leaves_ });
       }
 
@@ -110,11 +109,11 @@ module _ {E : Type 0} (store : Store) (view : GateView) (old new : Sides) (call 
       let known = calm.caller.session.known in
       record {
         fitting = fits_tagged store view s.number s.made call (NotAvailable cause) (MarkedDoubtful n) slot versions kept.mounted spares
-            (doubtful_right store view old.dir.entries old.counter s.number s.made call reply (change_of change) slot versions kept tied known ready (NotAvailable cause) n);
+            (doubtful_right store view old.dir.entries old.counter s.number s.made call reply change slot versions kept tied known ready (NotAvailable cause) n);
         fair = λ scenario.
-            subst (λ (m : ℕ). IsFairAt store scenario view.all (call_record s.number s.made call (NotAvailable cause) (MarkedDoubtful m) slot versions)) (sym next)
-            (doubtful_fair store view old.dir.entries old.counter s.number s.made call reply (change_of change) slot versions kept tied known ready fits cause spares scenario);
-        moves = doubtful_move E store view (call_record s.number s.made call (NotAvailable cause) (MarkedDoubtful n) slot versions) call (NotAvailable cause) n s calm.within refl calm.caller
+            subst (λ (m : ℕ). IsFairAt store scenario view.all (file_record s.number s.made call (NotAvailable cause) (MarkedDoubtful m) slot versions)) (sym next)
+            (doubtful_fair store view old.dir.entries old.counter s.number s.made call reply change slot versions kept tied known ready fits cause spares scenario);
+        moves = doubtful_move E store view (file_record s.number s.made call (NotAvailable cause) (MarkedDoubtful n) slot versions) call (NotAvailable cause) n s calm.within refl calm.caller
             calm.settled calm.sees;
       }
 
@@ -122,7 +121,7 @@ module _ {E : Type 0} (store : Store) (view : GateView) (old new : Sides) (call 
       → MayAppend store view call why Unchanged slot (unmade_versions versions) s s
   may_unmade why unmade spares = record {
     fitting = unmade_fits store view s.number s.made call why slot versions kept.mounted spares ready.given;
-    fair = unmade_fair store view old.dir.entries old.counter s.number s.made call reply (change_of change) slot versions kept tied calm.caller.session.known ready why unmade spares;
+    fair = unmade_fair store view old.dir.entries old.counter s.number s.made call reply change slot versions kept tied calm.caller.session.known ready why unmade spares;
     moves = unmade_moves store view s calm call why slot versions (unmade_undone old.counter why unmade);
   }
 

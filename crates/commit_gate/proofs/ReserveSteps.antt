@@ -18,8 +18,7 @@ use Rattle.core_laws.proofs.GateStepLaws.{drop_taking_is_step, one_step, take_is
 use Rattle.core_laws.specs.TamperScenarios.{TamperScenario}
 use Rattle.core_laws.specs.Stores.{Store, replay_at}
 use Rattle.core_laws.proofs.Mending.{none_some, some_same}
-use Rattle.store_commit.specs.declared.gate.Doubted.{Doubted}
-use Rattle.store_commit.specs.Changes.{change_of}
+use Rattle.crash_core.specs.declared.change.DoubtedChange.{DoubtedChange}
 use Rattle.store_commit.specs.Gates.{file_in_doubt}
 use Rattle.store_commit.specs.Holds.{AreApart, AreHolds, file_held}
 use Rattle.store_commit.specs.Sides.{Sides}
@@ -36,13 +35,13 @@ cleared (hold ∷ holds) zero = refl
 cleared (hold ∷ holds) (suc k) = cleared holds k
 
 -- the commit in doubt does not put a file that is apart from its own
-unput : (doubt : Option Doubted) (o : Option Doubt) (sealed : Option RootRef) (file : ℕ) → AreApart (Some file) (file_in_doubt doubt)
+unput : (doubt : Option DoubtedChange) (o : Option Doubt) (sealed : Option RootRef) (file : ℕ) → AreApart (Some file) (file_in_doubt doubt)
     → (p : PendingCommit) → pending_of doubt o sealed ≡ Some p → file_put p.change ≢ Some file
 unput None o sealed file apart p is = absurd (none_some p is)
 unput (Some d) None sealed file apart p is = absurd (none_some p is)
 unput (Some d) (Some x) sealed file apart p is =
-    let same : record { session = x.session; call = x.call; change = change_of d.change; sealed = sealed } ≡ p =
-    some_same (record { session = x.session; call = x.call; change = change_of d.change; sealed = sealed }) p is in
+    let same : record { session = x.session; call = x.call; change = d.change; sealed = sealed } ≡ p =
+    some_same (record { session = x.session; call = x.call; change = d.change; sealed = sealed }) p is in
     λ puts. apart (ap (λ (q : PendingCommit). file_put q.change) same ∙ puts)
 
 module _ (entries : List (Option DirEntry)) (before after : List (Option ℕ)) (session : ℕ) (were : AreHolds entries before) (are : AreHolds entries after) where
@@ -66,7 +65,7 @@ module _ (entries : List (Option DirEntry)) (before after : List (Option ℕ)) (
         let apart : k ≢ session = λ same. none_some n (sym is ∙ ap (file_held after) (sym same) ∙ held) in
         apart (were.single k session n (sym (others k apart) ∙ held) was))
 
-module _ (store : Store) (scenario : TamperScenario) (handed : Option Handed) (g : Sides) (doubt : Option Doubted) (before after : List (Option ℕ)) (session : ℕ) (card : CardState) (view : GateView)
+module _ (store : Store) (scenario : TamperScenario) (handed : Option Handed) (g : Sides) (doubt : Option DoubtedChange) (before after : List (Option ℕ)) (session : ℕ) (card : CardState) (view : GateView)
     (gate : IsGateOf store g doubt before card) where
   abbrev phase : Phase
   phase = phase_under store scenario

@@ -13,7 +13,9 @@ use Rattle.disk_model.specs.State.{FileState}
 use Rattle.history_seats.specs.Views.{GateView}
 use Rattle.history_seats.specs.Changes.{doubt_dropped, landing_of, with_record}
 use Rattle.crash_core.specs.Appends.{freed}
-use Rattle.crash_core.specs.EntryChanges.{EntryChange as CoreChange, Put, Clear, changed}
+use Rattle.crash_core.specs.declared.change.EntryChange.{EntryChange}
+use Rattle.crash_core.specs.declared.change.EntryChange.TheVariants.{Put, Clear}
+use Rattle.crash_core.specs.EntryChanges.{changed}
 use Rattle.crash_core.specs.CoreState.{PendingCommit, Phase, put}
 use Rattle.crash_core.specs.CoreSteps.{Append, DropCommit, DropTaking}
 use Rattle.core_laws.specs.GateParts.{GatePart}
@@ -23,9 +25,8 @@ use Rattle.core_laws.specs.TamperScenarios.{TamperScenario}
 use Rattle.core_laws.specs.Stores.{Store, replay_at}
 use Rattle.core_laws.proofs.Mending.{none_some}
 use Rattle.store_commit.specs.View.{DirView, StagedDirectory}
-use Rattle.store_commit.specs.declared.gate.Doubted.{Doubted}
+use Rattle.crash_core.specs.declared.change.DoubtedChange.{DoubtedChange}
 use Rattle.store_commit.specs.declared.resolve.Resolved.TheVariants.{Landed, Dropped}
-use Rattle.store_commit.specs.Changes.{change_of}
 use Rattle.store_commit.specs.Sides.{Names, Sides}
 use Rattle.commit_gate.specs.FinishedPhases.{phase_under}
 use Rattle.commit_gate.specs.CoreGates.{IsCardOf, pending_of, sealed_in, takes_of}
@@ -40,14 +41,14 @@ no_step : (phase : Phase) (handed : Option Handed) (g : GatePart) → GateSteps 
 no_step phase handed g = record { steps = []; run = λ slots. refl }
 
 -- the file that a change puts is no longer taken
-free_steps : (phase : Phase) (handed : Option Handed) (file : FileState) (card : CardState) (root : RootRef) (entries : List (Option DirEntry)) (takes : ℕ → Option ℕ) (view : GateView) (change : CoreChange)
+free_steps : (phase : Phase) (handed : Option Handed) (file : FileState) (card : CardState) (root : RootRef) (entries : List (Option DirEntry)) (takes : ℕ → Option ℕ) (view : GateView) (change : EntryChange)
     → GateSteps phase handed (made_of file card root entries takes None view) (made_of file card root entries (freed change takes) None view)
 free_steps phase handed file card root entries takes view (Put index e) =
     let g : GatePart = made_of file card root entries takes None view in
     one_step phase handed g (DropTaking e.file) (made_of file card root entries (put takes e.file None) None view) (drop_taking_is_step phase handed g e.file (λ p is. absurd (none_some p is)))
 free_steps phase handed file card root entries takes view (Clear index) = no_step phase handed (made_of file card root entries takes None view)
 
-module _ (store : Store) (scenario : TamperScenario) (handed : Option Handed) (old new : Sides) (d : Doubted) (before after : List (Option ℕ)) (card : CardState) (view : GateView)
+module _ (store : Store) (scenario : TamperScenario) (handed : Option Handed) (old new : Sides) (d : DoubtedChange) (before after : List (Option ℕ)) (card : CardState) (view : GateView)
     (gate : IsGateOf store old (Some d) before card) (read : IsDoubtRead store scenario view old.dir.entries d) where
   abbrev phase : Phase
   phase = phase_under store scenario
@@ -62,7 +63,7 @@ module _ (store : Store) (scenario : TamperScenario) (handed : Option Handed) (o
   start = resting_part store scenario old (Some d) before card view
 
   abbrev commit : Option RootRef → PendingCommit
-  commit sealed = record { session = (read.doubt).session; call = (read.doubt).call; change = change_of d.change; sealed = sealed }
+  commit sealed = record { session = (read.doubt).session; call = (read.doubt).call; change = d.change; sealed = sealed }
 
   abbrev waiting : Option RootRef → GatePart
   waiting sealed = made_of old.file card old.dir.root old.dir.entries (takes_of before) (Some (commit sealed)) view
@@ -102,14 +103,14 @@ module _ (store : Store) (scenario : TamperScenario) (handed : Option Handed) (o
     landed_steps : StepsTo store scenario handed start new None after (with_record (landing_of n) view)
     landed_steps =
         let root : RootRef = (gate.stands.next).root in
-        let left : GatePart = made_of old.file card root (changed old.dir.entries (change_of d.change)) (freed (change_of d.change) (takes_of before)) None (with_record (landing_of n) view) in
+        let left : GatePart = made_of old.file card root (changed old.dir.entries d.change) (freed d.change (takes_of before)) None (with_record (landing_of n) view) in
         let lands : GateSteps phase handed (waiting (Some root)) left =
         one_step phase handed (waiting (Some root)) (Append (landing_of n)) left
         (append_landed_is_step phase handed (waiting (Some root)) n None read.doubt (commit (Some root)) root read.is_open refl refl refl refl
         (record { doubt = read.doubt; is_open = read.is_open; number = c.resolves.number ∙ sym read.number; untagged = refl })) in
         let done : GateSteps phase handed start left = subst (λ (g : GatePart). GateSteps phase handed g left) (waits (Some root) sealed_is) lands in
-        let entries : changed old.dir.entries (change_of d.change) ≡ new.dir.entries = sym c.resolves.entries in
-        let takes : freed (change_of d.change) (takes_of before) ≡ takes_of after = sym (takes_freed old.dir.entries new.dir.entries before after gate.held c.held d.change c.ends) in
+        let entries : changed old.dir.entries d.change ≡ new.dir.entries = sym c.resolves.entries in
+        let takes : freed d.change (takes_of before) ≡ takes_of after = sym (takes_freed old.dir.entries new.dir.entries before after gate.held c.held d.change c.ends) in
         let file : old.file ≡ new.file = sym c.file in
         record {
           card = card;
@@ -127,15 +128,15 @@ module _ (store : Store) (scenario : TamperScenario) (handed : Option Handed) (o
     dropped_steps : StepsTo store scenario handed start new None after (doubt_dropped view)
     dropped_steps =
         let given_up : GatePart = made_of old.file card old.dir.root old.dir.entries (takes_of before) None view in
-        let free : GatePart = made_of old.file card old.dir.root old.dir.entries (freed (change_of d.change) (takes_of before)) None view in
-        let left : GatePart = made_of old.file card old.dir.root old.dir.entries (freed (change_of d.change) (takes_of before)) None (doubt_dropped view) in
+        let free : GatePart = made_of old.file card old.dir.root old.dir.entries (freed d.change (takes_of before)) None view in
+        let left : GatePart = made_of old.file card old.dir.root old.dir.entries (freed d.change (takes_of before)) None (doubt_dropped view) in
         let drops : GateSteps phase handed (waiting None) given_up =
         one_step phase handed (waiting None) DropCommit given_up (drop_commit_is_step phase handed (waiting None) (commit None) refl refl) in
-        let frees : GateSteps phase handed given_up free = free_steps phase handed old.file card old.dir.root old.dir.entries (takes_of before) view (change_of d.change) in
+        let frees : GateSteps phase handed given_up free = free_steps phase handed old.file card old.dir.root old.dir.entries (takes_of before) view d.change in
         let seen : GateSteps phase handed free left = record { steps = []; run = unseen_is_run phase handed free None (doubt_dropped view) refl } in
         let all : GateSteps phase handed (waiting None) left = steps_then phase handed (waiting None) free left (steps_then phase handed (waiting None) given_up free drops frees) seen in
         let done : GateSteps phase handed start left = subst (λ (g : GatePart). GateSteps phase handed g left) (waits None unsealed_is) all in
-        let takes : freed (change_of d.change) (takes_of before) ≡ takes_of after = sym (takes_freed old.dir.entries new.dir.entries before after gate.held c.held d.change c.ends) in
+        let takes : freed d.change (takes_of before) ≡ takes_of after = sym (takes_freed old.dir.entries new.dir.entries before after gate.held c.held d.change c.ends) in
         let file : old.file ≡ new.file = sym c.file in
         let root : old.dir.root ≡ new.dir.root = sym (ap (λ (v : DirView). v.root) c.resolves.same) in
         let entries : old.dir.entries ≡ new.dir.entries = sym (ap (λ (v : DirView). v.entries) c.resolves.same) in

@@ -21,7 +21,7 @@ use Rattle.history_seats.specs.Views.{GateView, no_mount}
 use Rattle.crash_core.specs.CardBlock.{root_in}
 use Rattle.crash_core.specs.Entries.{first_double}
 use Rattle.crash_core.specs.EntryLists.{AreDistinct, IsUnnamed}
-use Rattle.crash_core.specs.EntryChanges.{index_of}
+use Rattle.crash_core.specs.EntryChanges.{changed, index_of}
 use Rattle.crash_core.specs.CoreState.{IsTrusted, PendingCommit}
 use Rattle.crash_core.specs.Holding.{CardNames}
 use Rattle.crash_core.proofs.Doubles.{names_distinct}
@@ -34,13 +34,13 @@ use Rattle.core_laws.specs.TamperScenarios.{TamperScenario}
 use Rattle.core_laws.specs.Mapped.{landed_version}
 use Rattle.core_laws.specs.Stores.{Store, entries_at, replay_at}
 use Rattle.core_laws.proofs.Mending.{none_some, some_same}
-use Rattle.store_commit.specs.declared.gate.Doubted.{Doubted}
-use Rattle.store_commit.specs.Changes.{FitsIn, change_of, entries_after}
+use Rattle.crash_core.specs.declared.change.DoubtedChange.{DoubtedChange}
+use Rattle.store_commit.specs.Changes.{FitsIn}
 use Rattle.store_commit.specs.Gates.{IsDoubtOf}
 use Rattle.store_commit.specs.Holds.{AreHolds}
 use Rattle.store_commit.specs.Sides.{IsSettled, Names, Sides}
-use Rattle.store_commit.specs.declared.change.EntryChange.{EntryChange as Change}
-use Rattle.store_commit.specs.declared.change.EntryChange.TheVariants.{Put, Clear}
+use Rattle.crash_core.specs.declared.change.EntryChange.{EntryChange as Change}
+use Rattle.crash_core.specs.declared.change.EntryChange.TheVariants.{Put, Clear}
 use Rattle.commit_gate.specs.FinishedPhases.{phase_under}
 use Rattle.commit_gate.specs.CoreGates.{IsCardOf, gate_part, pending_of, sealed_in, takes_of}
 use Rattle.commit_gate.specs.Readings.{IsDoubtRead, IsTiedUnder}
@@ -81,7 +81,7 @@ module _ (store : Store) (scenario : TamperScenario) (g : Sides) (view : GateVie
       (landed_is_known store.mounted view.all number view.decided late e.file e.generation v given)
 
   -- the committed directory stands for the gate
-  committed_stands : (doubt : Option Doubted) → IsTiedUnder store scenario view g.dir.entries g.counter doubt → AreEntriesOf g.dir.entries
+  committed_stands : (doubt : Option DoubtedChange) → IsTiedUnder store scenario view g.dir.entries g.counter doubt → AreEntriesOf g.dir.entries
       → (IsTrusted (phase_under store scenario) directory_file → DirectoryReads store.keys g.file g.dir.root g.dir.entries)
       → GateDirectory (phase_under store scenario) g.file view None g.dir.root g.dir.entries ((replay_of (phase_under store scenario) view).state).objects
   committed_stands doubt tied are own =
@@ -89,11 +89,11 @@ module _ (store : Store) (scenario : TamperScenario) (g : Sides) (view : GateVie
       view (λ index e v stood given. given_known e v given) g.file g.dir.root own
 
 -- a change that fits changes one of the entries
-pub change_within : (entries : List (Option DirEntry)) (change : Change) → FitsIn entries change → index_of (change_of change) < 256
+pub change_within : (entries : List (Option DirEntry)) (change : Change) → FitsIn entries change → index_of change < 256
 change_within entries (Put index e) fits = fits.below
 change_within entries (Clear index) fits = fits
 
-module _ (store : Store) (scenario : TamperScenario) (g : Sides) (doubt : Option Doubted) (holds : List (Option ℕ)) (card : CardState) (view : GateView)
+module _ (store : Store) (scenario : TamperScenario) (g : Sides) (doubt : Option DoubtedChange) (holds : List (Option ℕ)) (card : CardState) (view : GateView)
     (gate : IsGateOf store g doubt holds card) (tied : IsTiedUnder store scenario view g.dir.entries g.counter doubt)
     (honest : IsTrusted (phase_under store scenario) directory_file → IsTrue g.file.honest) where
   abbrev at_now : ReplayState
@@ -122,12 +122,12 @@ module _ (store : Store) (scenario : TamperScenario) (g : Sides) (doubt : Option
     at_rest = λ p is. absurd (none_some p is);
   }
 
-  module _ (d : Doubted) (of : IsDoubtOf g d) (read : IsDoubtRead store scenario view g.dir.entries d) where
+  module _ (d : DoubtedChange) (of : IsDoubtOf g d) (read : IsDoubtRead store scenario view g.dir.entries d) where
     abbrev part_with : Option Doubt → Option RootRef → GatePart
     part_with o sealed = gate_part g card (takes_of holds) (pending_of (Some d) o sealed) None view
 
     abbrev commit_with : Option RootRef → PendingCommit
-    commit_with sealed = record { session = (read.doubt).session; call = (read.doubt).call; change = change_of d.change; sealed = sealed }
+    commit_with sealed = record { session = (read.doubt).session; call = (read.doubt).call; change = d.change; sealed = sealed }
 
     doubted_rests : (o : Option Doubt) → at_now.doubt ≡ o → o ≡ Some read.doubt → (sealed : Option RootRef) → IsAtRest (phase_under store scenario) (part_with o sealed)
     doubted_rests o is_open same sealed p is =
@@ -140,12 +140,12 @@ module _ (store : Store) (scenario : TamperScenario) (g : Sides) (doubt : Option
           call = ap (λ (x : PendingCommit). x.call) (sym commit);
         }
 
-    landed_stands : GateDirectory (phase_under store scenario) g.file view None (of.next).root (entries_after g.dir.entries d.change) ((replay_landed at_now (Some read.doubt)).state).objects
+    landed_stands : GateDirectory (phase_under store scenario) g.file view None (of.next).root (changed g.dir.entries d.change) ((replay_landed at_now (Some read.doubt)).state).objects
     landed_stands =
         let stands = of.stands in
-        let after : AreEntriesOf (entries_after g.dir.entries d.change) = subst AreEntriesOf of.entries stands.next_entries in
-        reading_stands store scenario (entries_after g.dir.entries d.change) (as_landed (entries_at store view.all)).now (landed_version store.mounted view.all) (replay_landed at_now (Some read.doubt))
-        read.landed (entries_distinct (entries_after g.dir.entries d.change) after) (rising-after at_now.state (read.doubt).session (read.doubt).call tied.rising)
+        let after : AreEntriesOf (changed g.dir.entries d.change) = subst AreEntriesOf of.entries stands.next_entries in
+        reading_stands store scenario (changed g.dir.entries d.change) (as_landed (entries_at store view.all)).now (landed_version store.mounted view.all) (replay_landed at_now (Some read.doubt))
+        read.landed (entries_distinct (changed g.dir.entries d.change) after) (rising-after at_now.state (read.doubt).session (read.doubt).call tied.rising)
         view (λ index e v stood given. landed_known store scenario g view tied.mounted d.number read.late e v given) g.file (of.next).root
         (λ trusted. subst (DirectoryReads store.keys g.file (of.next).root) of.entries
         (own_reads (of.next).root (of.next).tree (of.next).entries (stands.next_form.version, stands.same_format ∙ gate.current) stands.next_held trusted))
@@ -183,7 +183,7 @@ module _ (store : Store) (scenario : TamperScenario) (g : Sides) (doubt : Option
           (rests_with None (names_still g.dir.root g.counter tied.counted old))
       | inr new ↦ subst (λ (x : Option RootRef). IsResting (phase_under store scenario) (part_with at_now.doubt x)) (sym (is_sealed new)) (rests_with (Some (of.next).root) (record {
         names = names_now (of.next).root 1 g.counter tied.counted new;
-        place = subst (λ (n : ℕ). index_of (change_of d.change) < n) (sym ((of.stands).entries).whole) (change_within g.dir.entries d.change of.fits);
+        place = subst (λ (n : ℕ). index_of d.change < n) (sym ((of.stands).entries).whole) (change_within g.dir.entries d.change of.fits);
         directory = landed_stands;
       }))
     ]

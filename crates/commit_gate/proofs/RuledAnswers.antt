@@ -1,5 +1,6 @@
 -- A call that the rules answered is answered as the machine does, and its session is as the machine's.
-use Rattle.std.proofs.Common.{◌≡◌, ◌≤◌, ◌<◌, ◌^◌, ◌&&◌, Bool, true, false, not, List, [], Option, length, refl, sym, ap, ◌∙◌, subst, inl}
+use Rattle.std.proofs.Common.{◌≡◌, ◌≤◌, ◌<◌, ◌^◌, ◌&&◌, Bool, true, false, not, List, [], Option, length, refl, sym, ap, ◌∙◌, subst, inl, None}
+use Rattle.history_seats.specs.Changes.{call_record}
 use Rattle.std.proofs.lemmas.Grind.{get_or-set_at}
 use Rattle.tee_types.specs.declared.call.Call.{Call}
 use Rattle.tee_types.specs.declared.reply.Reply.{Reply}
@@ -16,7 +17,7 @@ use Rattle.core_laws.specs.TamperScenarios.{TamperScenario}
 use Rattle.core_laws.specs.Stores.{Store, replay_at}
 use Rattle.core_laws.specs.Answered.{AreAnswered}
 use Rattle.commit_gate.specs.CallerSessions.{CallerSession}
-use Rattle.commit_gate.specs.JournalCalls.{IsMovedBy, IsToldAlone, alone_record, session_unless_undone}
+use Rattle.commit_gate.specs.JournalCalls.{IsMovedBy, IsToldAlone, session_unless_undone}
 use Rattle.commit_gate.proofs.CallMoves.{unchanged_move}
 use Rattle.call_rules.specs.Matches.{Matches}
 use Rattle.call_rules.specs.Told.{IsTold}
@@ -68,7 +69,7 @@ module _ {E : Type 0} (store : Store) (knows : GateView) (entries : List (Option
     pub ruled-session : session_unless_undone s.number call reply here ≡ s.state
     ruled-session = by_undone (is_undone reply) refl
 
-  pub ruled-moves : knows.decided ≤ length knows.all → IsMovedBy store knows (alone_record s.number s.made call reply) s
+  pub ruled-moves : knows.decided ≤ length knows.all → IsMovedBy store knows (call_record s.number s.made call reply Unchanged None) s
   ruled-moves within =
-      unchanged_move E store knows (alone_record s.number s.made call reply) call reply s within refl ruled.keeps
+      unchanged_move E store knows (call_record s.number s.made call reply Unchanged None) call reply s within refl ruled.keeps
       (record { before = ruled.before; was = ruled.was; sees = ruled.sees; application = ruled.application; moves = ruled-session })

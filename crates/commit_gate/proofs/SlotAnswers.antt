@@ -20,11 +20,11 @@ use Rattle.core_laws.specs.TagLaws.{NamesGiven}
 use Rattle.core_laws.proofs.QuietTies.{unchanged_ties}
 use Rattle.core_laws.proofs.RightTags.{unchanged_right}
 use Rattle.call_rules.proofs.EventOpens.{unchanged-event}
-use Rattle.store_commit.specs.declared.gate.Doubted.{Doubted}
+use Rattle.crash_core.specs.declared.change.DoubtedChange.{DoubtedChange}
 use Rattle.store_commit.specs.Gates.{GateValue}
 use Rattle.open_table.specs.HandleChanges.{NotesReply}
 use Rattle.commit_gate.specs.declared.guarded_gate.Closing.{Closing}
-use Rattle.commit_gate.specs.GuardedGates.{IsClosingTied, GateInvariant, change_in_doubt}
+use Rattle.commit_gate.specs.GuardedGates.{IsClosingTied, GateInvariant}
 use Rattle.commit_gate.specs.SlotAnswers.{MayBeTold, slot_record, versions_given}
 
 module _ (store : Store) (knows : GateView) (slot : SlotView) (session made : ℕ) (call : Call) (reply : Reply) where
@@ -37,7 +37,7 @@ module _ (store : Store) (knows : GateView) (slot : SlotView) (session made : �
   right : HasRightTag store.mounted knows.all r
   right = unchanged_right store.mounted knows.all r refl (λ tag is. subst (NamesGiven store.mounted knows.all) (some_same the_tag tag is) (record { committed = refl; doubted = refl }))
 
-  slot-closes : (doubt : Option Doubted) (closing : Option Closing) → doubt ≡ None → IsClosingTied store knows doubt closing → IsClosingTied store (with_record r knows) doubt closing
+  slot-closes : (doubt : Option DoubtedChange) (closing : Option Closing) → doubt ≡ None → IsClosingTied store knows doubt closing → IsClosingTied store (with_record r knows) doubt closing
   slot-closes None closing calm closes = closes
   slot-closes (Some d) closing calm closes = absurd (none_some calm)
     where
@@ -50,8 +50,8 @@ module _ (store : Store) (knows : GateView) (slot : SlotView) (session made : �
   slot-guarded gate table closing known told notes journal guarded = record {
     journal = journal;
     tied =
-        unchanged_ties store knows gate.dir.dir.entries gate.counter (change_in_doubt gate.doubt) r refl right
-        (subst (λ (o : Option Doubted). KeepsDoubt (change_in_doubt o) (CallEvent session made call reply Unchanged)) (sym told.calm) tt) guarded.tied;
+        unchanged_ties store knows gate.dir.dir.entries gate.counter gate.doubt r refl right
+        (subst (λ (o : Option DoubtedChange). KeepsDoubt o (CallEvent session made call reply Unchanged)) (sym told.calm) tt) guarded.tied;
     handles = λ scenario answered.
         let before = answered-front store scenario knows.all (r ∷ []) answered in
         unchanged-event store scenario knows.all r answered gate.dir.dir.entries gate.open_handles table (guarded.handles scenario before) session made slot.file call reply notes refl

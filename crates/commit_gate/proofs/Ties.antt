@@ -1,5 +1,5 @@
 -- What ties a gate to its history tells under a tamper scenario.
-use Rattle.std.proofs.Common.{ℕ, List, Option, Some, None, option_map, sym, subst}
+use Rattle.std.proofs.Common.{ℕ, List, Option, Some, None, sym, subst}
 use Rattle.dir_records.specs.declared.entry.DirEntry.{DirEntry}
 use Rattle.history_seats.specs.Settling.{IsOpenDoubt}
 use Rattle.history_seats.specs.Views.{GateView}
@@ -8,16 +8,16 @@ use Rattle.core_laws.specs.TamperScenarios.{TamperScenario}
 use Rattle.core_laws.specs.Mapped.{IsMappedBoth}
 use Rattle.core_laws.specs.Stores.{Store}
 use Rattle.core_laws.specs.Ties.{IsReplayDoubt, IsTied, IsTiedDoubt}
-use Rattle.store_commit.specs.declared.gate.Doubted.{Doubted}
+use Rattle.crash_core.specs.declared.change.DoubtedChange.{DoubtedChange}
 use Rattle.commit_gate.specs.Readings.{AreDoubtsRead}
-use Rattle.commit_gate.specs.CoreTies.{TiesTell, doubted_change}
+use Rattle.commit_gate.specs.CoreTies.{TiesTell}
 
 module _ (store : Store) (scenario : TamperScenario) (view : GateView) (entries : List (Option DirEntry)) (counter : ℕ) (answered : AreAnswered store scenario view.all) (mapped : IsMappedBoth store scenario view.decided view.all) where
-  doubts_read : (doubt : Option Doubted) → IsTied store view entries counter (option_map doubted_change doubt) → AreDoubtsRead store scenario view entries doubt
+  doubts_read : (doubt : Option DoubtedChange) → IsTied store view entries counter doubt → AreDoubtsRead store scenario view entries doubt
   doubts_read None tied = tt
   doubts_read (Some d) tied =
-      let of : IsTiedDoubt store view entries (doubted_change d) = tied.doubt in
-      let s : IsReplayDoubt _ entries (doubted_change d) = of.stands scenario answered in
+      let of : IsTiedDoubt store view entries d = tied.doubt in
+      let s : IsReplayDoubt _ entries d = of.stands scenario answered in
       record {
         doubt = s.doubt;
         is_open = s.is_open;

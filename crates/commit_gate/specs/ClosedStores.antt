@@ -23,9 +23,8 @@ use Rattle.core_laws.specs.TamperScenarios.{TamperScenario}
 use Rattle.core_laws.specs.Mapped.{Versions, landed_version}
 use Rattle.core_laws.specs.Stores.{Store, entries_at, entry_named, replay_at}
 use Rattle.core_laws.specs.Ties.{IsTied}
-use Rattle.store_commit.specs.declared.gate.Doubted.{Doubted}
+use Rattle.crash_core.specs.declared.change.DoubtedChange.{DoubtedChange}
 use Rattle.store_commit.specs.Sides.{Sides}
-use Rattle.commit_gate.specs.CoreTies.{doubted_change}
 use Rattle.commit_gate.specs.FinishedPhases.{phase_under}
 use Rattle.commit_gate.specs.Readings.{IsTiedUnder}
 use Rattle.commit_gate.specs.Resting.{IsGateOf}
@@ -69,7 +68,7 @@ abbrev pub SupposesTampered : TamperScenario → (ℕ → FileState) → Type 0
 SupposesTampered scenario files = (file : ℕ) → file < file_count → (Contains scenario.tampered file → ⊥) → IsTrue (files file).honest
 
 -- A closed store, as a tamper scenario has it.
-pub record IsClosedStore (store : Store) (scenario : TamperScenario) (g : Sides) (doubt : Option Doubted) (holds : List (Option ℕ)) (card : CardState) (view : GateView) (slots : ℕ → SlotPart) : Type 0 where
+pub record IsClosedStore (store : Store) (scenario : TamperScenario) (g : Sides) (doubt : Option DoubtedChange) (holds : List (Option ℕ)) (card : CardState) (view : GateView) (slots : ℕ → SlotPart) : Type 0 where
   pub gate : IsGateOf store g doubt holds card
   pub tied : IsTiedUnder store scenario view g.dir.entries g.counter doubt
   pub slots_hold : AreSlotsOf store view slots
@@ -90,14 +89,14 @@ IsMapBy (Some d) phase picture s = IsMapAfter phase picture s
 -- the directory's file is not.
 abbrev pub ClosedStoresMount : Type 0
 ClosedStoresMount =
-    (store : Store) (scenario : TamperScenario) (g : Sides) (doubt : Option Doubted) (holds : List (Option ℕ)) (card : CardState) (view : GateView) (slots : ℕ → SlotPart) (picture : Picture)
+    (store : Store) (scenario : TamperScenario) (g : Sides) (doubt : Option DoubtedChange) (holds : List (Option ℕ)) (card : CardState) (view : GateView) (slots : ℕ → SlotPart) (picture : Picture)
     → IsClosedStore store scenario g doubt holds card view slots → IsPictureOf (store_files g slots) card picture → IsTrusted (phase_under store scenario) directory_file
     → MountsBy doubt (phase_under store scenario) picture (replay_at store scenario view.all)
 
 -- Where every file is honest, it mounts to that map itself.
 abbrev pub HonestStoresMount : Type 0
 HonestStoresMount =
-    (store : Store) (scenario : TamperScenario) (g : Sides) (doubt : Option Doubted) (holds : List (Option ℕ)) (card : CardState) (view : GateView) (slots : ℕ → SlotPart) (picture : Picture)
+    (store : Store) (scenario : TamperScenario) (g : Sides) (doubt : Option DoubtedChange) (holds : List (Option ℕ)) (card : CardState) (view : GateView) (slots : ℕ → SlotPart) (picture : Picture)
     → IsClosedStore store scenario g doubt holds card view slots → IsPictureOf (store_files g slots) card picture → ((file : ℕ) → IsTrusted (phase_under store scenario) file)
     → IsMapBy doubt (phase_under store scenario) picture (replay_at store scenario view.all)
 
@@ -120,9 +119,9 @@ MountsGivenBy (Some d) store phase picture records =
     ⊎ MountsGiven phase picture (landed_version store.mounted records) (as_landed (entries_at store records)).now
 
 -- A store that is closed, whatever its history tells: its gate is tied to the records, and its slots hold.
-pub record IsTiedStore (store : Store) (scenario : TamperScenario) (g : Sides) (doubt : Option Doubted) (holds : List (Option ℕ)) (card : CardState) (view : GateView) (slots : ℕ → SlotPart) : Type 0 where
+pub record IsTiedStore (store : Store) (scenario : TamperScenario) (g : Sides) (doubt : Option DoubtedChange) (holds : List (Option ℕ)) (card : CardState) (view : GateView) (slots : ℕ → SlotPart) : Type 0 where
   pub gate : IsGateOf store g doubt holds card
-  pub tied : IsTied store view g.dir.entries g.counter (option_map doubted_change doubt)
+  pub tied : IsTied store view g.dir.entries g.counter doubt
   pub mounted : view.mounted ≡ Some store.mounted
   pub slots_hold : AreSlotsOf store view slots
   pub tampered : SupposesTampered scenario (store_files g slots)
@@ -131,7 +130,7 @@ pub record IsTiedStore (store : Store) (scenario : TamperScenario) (g : Sides) (
 -- history is answered is not asked.
 abbrev pub TiedStoresMount : Type 0
 TiedStoresMount =
-    (store : Store) (scenario : TamperScenario) (g : Sides) (doubt : Option Doubted) (holds : List (Option ℕ)) (card : CardState) (view : GateView) (slots : ℕ → SlotPart) (picture : Picture)
+    (store : Store) (scenario : TamperScenario) (g : Sides) (doubt : Option DoubtedChange) (holds : List (Option ℕ)) (card : CardState) (view : GateView) (slots : ℕ → SlotPart) (picture : Picture)
     → IsTiedStore store scenario g doubt holds card view slots → IsPictureOf (store_files g slots) card picture → IsTrusted (phase_under store scenario) directory_file
     → MountsGivenBy doubt store (phase_under store scenario) picture view.all
 

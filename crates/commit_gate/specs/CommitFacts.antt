@@ -8,7 +8,8 @@ use Rattle.htree_file.specs.Selected.{Lies}
 use Rattle.htree_file.specs.Standing.{IsFirm}
 use Rattle.tee_types.specs.Limits.{directory_file}
 use Rattle.store_model.specs.Object.{Object}
-use Rattle.crash_core.specs.EntryChanges.{Clear, EntryChange, Put}
+use Rattle.crash_core.specs.declared.change.EntryChange.{EntryChange}
+use Rattle.crash_core.specs.declared.change.EntryChange.TheVariants.{Clear, Put}
 use Rattle.crash_core.specs.Mounting.{Held}
 use Rattle.crash_core.specs.CoreState.{IsTrusted, PendingCommit, Phase}
 use Rattle.crash_core.specs.Seals.{sealed_card}

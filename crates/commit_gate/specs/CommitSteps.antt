@@ -5,16 +5,13 @@ use Rattle.tee_types.specs.Limits.{directory_file}
 use Rattle.tee_types.specs.declared.call.Call.{Call}
 use Rattle.tee_types.specs.declared.reply.Reply.{Reply}
 use Rattle.rpmb_card.specs.Card.{CardState}
-use Rattle.store_model.specs.declared.event.Event.TheVariants.{Call as CallEvent}
-use Rattle.store_model.specs.declared.event.Mark.{Mark}
-use Rattle.store_model.specs.declared.event.Mark.TheVariants.{Unchanged, Made as MadeMark, Doubtful as DoubtfulMark}
 use Rattle.store_model.specs.Legal.{IsLegalEvent, is_commit_due}
 use Rattle.store_model.specs.Makes.{MakesChange, MapChange}
 use Rattle.store_model.specs.Object.{Object}
 use Rattle.store_model.specs.Record.{Tag, file_of}
-use Rattle.history_seats.specs.Records.{HistoryRecord, Version}
+use Rattle.history_seats.specs.Records.{Version}
 use Rattle.history_seats.specs.Views.{GateView}
-use Rattle.history_seats.specs.Changes.{with_record}
+use Rattle.history_seats.specs.Changes.{with_record, call_record}
 use Rattle.crash_core.specs.EntryChanges.{IsChange}
 use Rattle.crash_core.specs.CoreState.{IsTrusted}
 use Rattle.core_laws.specs.GateLaws.{HandedShows}
@@ -22,26 +19,15 @@ use Rattle.core_laws.specs.GateSteps.{Handed}
 use Rattle.core_laws.specs.TamperScenarios.{TamperScenario}
 use Rattle.core_laws.specs.Stores.{Store, replay_at}
 use Rattle.store_commit.specs.declared.change.CommitEnd.{CommitEnd}
-use Rattle.store_commit.specs.declared.change.CommitEnd.TheVariants.{Made, Dropped, Doubtful, Spent}
-use Rattle.store_commit.specs.declared.change.EntryChange.{EntryChange}
-use Rattle.store_commit.specs.Changes.{change_of}
+use Rattle.crash_core.specs.declared.change.EntryChange.{EntryChange}
 use Rattle.store_commit.specs.Ends.{Leaves, Throughout}
 use Rattle.store_commit.specs.Gates.{LeavesHolds, doubt_left}
 use Rattle.store_commit.specs.Holds.{AreHolds}
 use Rattle.store_commit.specs.Sides.{Sides}
 use Rattle.store_commit.specs.Steps.{Steps}
 use Rattle.commit_gate.specs.FinishedPhases.{phase_under}
+use Rattle.commit_gate.specs.GateEnds.{mark_told}
 use Rattle.commit_gate.specs.Resting.{IsGateOf, StepsTo, resting_part}
-
--- the mark of the event that a commit leaves, by its end
-abbrev pub end_mark : CommitEnd → Mark
-end_mark (Made n) = MadeMark n
-end_mark (Dropped cause) = Unchanged
-end_mark (Doubtful n cause) = DoubtfulMark n
-end_mark Spent = Unchanged
-
-abbrev pub commit_event : (session number : ℕ) → Call → Reply → CommitEnd → Option (Tag Version) → HistoryRecord
-commit_event session number call reply end tag = record { event = CallEvent session number call reply (end_mark end); tag = tag }
 
 -- What a commit is for: the machine commits the call, and the change of the entries is the one that this makes. The slot that is handed
 -- over shows in its file what the change puts.
@@ -50,8 +36,8 @@ pub record IsForCall (store : Store) (scenario : TamperScenario) (handed : Optio
   pub made : MapChange
   pub makes : MakesChange (replay_at store scenario view.all).state session call made
   pub object : Object
-  pub enters : IsChange ((replay_at store scenario view.all).state).objects g.dir.entries g.counter made (change_of change) object
-  pub shows : HandedShows (phase_under store scenario) handed (change_of change) object
+  pub enters : IsChange ((replay_at store scenario view.all).state).objects g.dir.entries g.counter made change object
+  pub shows : HandedShows (phase_under store scenario) handed change object
 
 -- What a commit of the gate leaves.
 pub record IsGateCommit (old new : Sides) (change : EntryChange) (end : CommitEnd) (before after : List (Option ℕ)) : Type 0 where
@@ -66,7 +52,7 @@ pub record IsGateCommit (old new : Sides) (change : EntryChange) (end : CommitEn
 abbrev pub CommitsAreSteps : Type 0
 CommitsAreSteps =
     (store : Store) (scenario : TamperScenario) (handed : Option Handed) (old new : Sides) (change : EntryChange) (end : CommitEnd) (before after : List (Option ℕ)) (card : CardState) (view : GateView)
-    (session number : ℕ) (call : Call) (reply : Reply) (tag : Option (Tag Version)) → let r = commit_event session number call reply end tag in
+    (session number : ℕ) (call : Call) (reply : Reply) (tag : Option (Tag Version)) → let r = call_record session number call reply (mark_told end) tag in
     IsGateOf store old None before card → IsGateCommit old new change end before after → IsForCall store scenario handed old view change session call
     → (IsTrusted (phase_under store scenario) directory_file → IsTrue new.file.honest) → IsLegalEvent scenario.tampered (replay_at store scenario view.all) r.event (file_of r)
     → StepsTo store scenario handed (resting_part store scenario old None before card view) new (doubt_left change end) after (with_record r view)

@@ -11,7 +11,7 @@ use Rattle.history_seats.specs.Records.{HistoryRecord, Version}
 use Rattle.history_seats.specs.Directory.{given_version}
 use Rattle.history_seats.specs.Changes.{TagVersions, record_of}
 use Rattle.history_seats.specs.Views.{GateView, SlotView}
-use Rattle.crash_core.specs.EntryChanges.{EntryChange}
+use Rattle.crash_core.specs.declared.change.EntryChange.{EntryChange}
 use Rattle.core_laws.specs.TamperScenarios.{TamperScenario}
 use Rattle.core_laws.specs.Stores.{Store, replay_at}
 use Rattle.core_laws.specs.Shown.{EndsCommit, IsEndAt}
@@ -37,8 +37,8 @@ abbrev pub tag_of : SlotView → TagVersions → Tag Version
 tag_of slot versions = record { file = slot.file; generation = slot.generation; committed = versions.committed; doubted = versions.doubted }
 
 -- the record of a session's call on a slot's object
-abbrev pub call_record : (session number : ℕ) → Call → Reply → Mark → SlotView → TagVersions → HistoryRecord
-call_record session number call reply mark slot versions = record_of (CallEvent session number call reply mark) (Some slot) versions
+abbrev pub file_record : (session number : ℕ) → Call → Reply → Mark → SlotView → TagVersions → HistoryRecord
+file_record session number call reply mark slot versions = record_of (CallEvent session number call reply mark) (Some slot) versions
 
 -- Under a tamper scenario the machine commits the call, answers it so, and changes the object to what stands for the version that is left.
 pub record IsDueUnder (store : Store) (scenario : TamperScenario) (before : List HistoryRecord) (session : ℕ) (call : Call) (reply : Reply) (change : EntryChange) (tag : Tag Version) : Type 0 where
@@ -49,7 +49,7 @@ pub record IsDueUnder (store : Store) (scenario : TamperScenario) (before : List
 -- under a tamper scenario the promises end at the call, however its commit ends, where this is the reply once it is made
 abbrev pub EndsUnder : Store → TamperScenario → List HistoryRecord → (session number : ℕ) → Call → (made : Reply) → SlotView → Type 0
 EndsUnder store scenario before session number call made slot =
-    (reply : Reply) (mark : Mark) (versions : TagVersions) → EndsCommit made reply mark → IsEndAt store scenario before (call_record session number call reply mark slot versions)
+    (reply : Reply) (mark : Mark) (versions : TagVersions) → EndsCommit made reply mark → IsEndAt store scenario before (file_record session number call reply mark slot versions)
 
 -- What a caller brings to the commit of a session's call on a slot's object: the entries change as the call changes them and as its version
 -- says, and under each tamper scenario by which the object's file is not honest the machine commits the call, or the promises end there.

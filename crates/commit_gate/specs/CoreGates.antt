@@ -10,8 +10,7 @@ use Rattle.crash_core.specs.Pictures.{SameCard}
 use Rattle.crash_core.specs.Mounting.{Held}
 use Rattle.crash_core.specs.CoreState.{PendingCommit}
 use Rattle.core_laws.specs.GateParts.{GatePart}
-use Rattle.store_commit.specs.declared.gate.Doubted.{Doubted}
-use Rattle.store_commit.specs.Changes.{change_of}
+use Rattle.crash_core.specs.declared.change.DoubtedChange.{DoubtedChange}
 use Rattle.store_commit.specs.Sides.{Sides}
 
 -- The card that the port tells, but for its register, which says how the last write ended, and which no mount reads.
@@ -34,10 +33,10 @@ abbrev pub takes_of : (holds : List (Option ℕ)) → (file : ℕ) → Option �
 takes_of holds file = holder_from 0 holds file
 
 -- the commit in doubt, as the gate and the history know it
-abbrev pub pending_of : Option Doubted → Option Doubt → (sealed : Option RootRef) → Option PendingCommit
+abbrev pub pending_of : Option DoubtedChange → Option Doubt → (sealed : Option RootRef) → Option PendingCommit
 pending_of None doubt sealed = None
 pending_of (Some d) None sealed = None
-pending_of (Some d) (Some doubt) sealed = Some (record { session = doubt.session; call = doubt.call; change = change_of d.change; sealed = sealed })
+pending_of (Some d) (Some doubt) sealed = Some (record { session = doubt.session; call = doubt.call; change = d.change; sealed = sealed })
 
 -- the reference of the open stage, where the card's counter tells that the card names it
 abbrev pub sealed_in : Sides → CardState → Option RootRef

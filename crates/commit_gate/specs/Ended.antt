@@ -18,20 +18,20 @@ use Rattle.commit_gate.specs.CallerSessions.{CallerSession, IsCallerOf, session_
 use Rattle.commit_gate.specs.SessionViews.{pass_shown}
 use Rattle.store_commit.specs.declared.change.CommitEnd.{CommitEnd}
 use Rattle.commit_gate.specs.declared.session_moves.SessionMove.{SessionMove}
-use Rattle.commit_gate.specs.Commits.{call_record}
+use Rattle.commit_gate.specs.Commits.{file_record}
 use Rattle.commit_gate.specs.GateEnds.{mark_told, reply_told, session_moved, versions_told}
 
 -- The record of a call on a slot's object is fair and rightly tagged, and the session, once it moved so, is the machine's behind it.
 pub record MayAppend {E : Type 0} (store : Store) (view : GateView) (call : Call) (told : Reply) (mark : Mark) (slot : SlotView) (versions : TagVersions) (s moved : CallerSession E) : Type 0 where
-  pub fitting : IsFitting view (call_record s.number s.made call told mark slot versions)
-  pub fair : (scenario : TamperScenario) → IsFairAt store scenario view.all (call_record s.number s.made call told mark slot versions)
-  pub moves : IsMovedBy store view (call_record s.number s.made call told mark slot versions) moved
+  pub fitting : IsFitting view (file_record s.number s.made call told mark slot versions)
+  pub fair : (scenario : TamperScenario) → IsFairAt store scenario view.all (file_record s.number s.made call told mark slot versions)
+  pub moves : IsMovedBy store view (file_record s.number s.made call told mark slot versions) moved
 
 -- It is appended, and the session, which moved so, and the slot's seat see it.
 pub record IsAppended {E : Type 0} (store : Store) (before after : GateView) (call : Call) (told : Reply) (mark : Mark) (slot : Sight SlotView) (versions : TagVersions) (s moved new : CallerSession E)
     (appended : AppendedCall) : Type 0 where
   pub place : appended.place ≡ length before.all
-  pub knows : after ≡ with_record (call_record s.number s.made call told mark slot.knows versions) before
+  pub knows : after ≡ with_record (file_record s.number s.made call told mark slot.knows versions) before
   pub kept : IsJournal store after
   pub seat : appended.slot ≡ seat_renewed after (Some slot)
   pub session : new ≡ record moved { pass = pass_shown after s.pass; made = s.made + 1 }

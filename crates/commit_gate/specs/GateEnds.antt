@@ -15,7 +15,8 @@ use Rattle.open_table.specs.Table.{TableState}
 use Rattle.history_seats.specs.Records.{HistoryRecord}
 use Rattle.history_seats.specs.Changes.{TagVersions}
 use Rattle.history_seats.specs.Views.{SlotView}
-use Rattle.crash_core.specs.EntryChanges.{EntryChange, Put}
+use Rattle.crash_core.specs.declared.change.EntryChange.{EntryChange}
+use Rattle.crash_core.specs.declared.change.EntryChange.TheVariants.{Put}
 use Rattle.commit_gate.specs.declared.own_doubt.OwnDoubt.{OwnDoubt}
 use Rattle.commit_gate.specs.CallerSessions.{CallerSession, landing_of_call}
 use Rattle.store_commit.specs.declared.change.CommitEnd.{CommitEnd}
@@ -24,7 +25,7 @@ use Rattle.store_commit.specs.Holds.{file_held}
 use Rattle.open_table.specs.HandleChanges.{NotesReply}
 use Rattle.commit_gate.specs.declared.guarded_gate.Closing.{Closing}
 use Rattle.commit_gate.specs.declared.session_moves.SessionMove.{SessionMove}
-use Rattle.commit_gate.specs.Commits.{call_record, made_versions, unmade_versions}
+use Rattle.commit_gate.specs.Commits.{file_record, made_versions, unmade_versions}
 use Rattle.commit_gate.specs.GuardedGates.{closing_of}
 use Rattle.commit_gate.specs.SessionMoves.{moved_by}
 
@@ -60,7 +61,7 @@ abbrev pub end_event : CommitEnd → (session number : ℕ) → Call → Reply �
 end_event end session number call reply = CallEvent session number call (reply_told end reply) (mark_told end)
 
 abbrev pub end_record : CommitEnd → (session number : ℕ) → Call → Reply → SlotView → TagVersions → HistoryRecord
-end_record end session number call reply slot versions = call_record session number call (reply_told end reply) (mark_told end) slot (versions_told end versions)
+end_record end session number call reply slot versions = file_record session number call (reply_told end reply) (mark_told end) slot (versions_told end versions)
 
 -- the state of the session: one that is made moves it
 abbrev pub state_behind : CommitEnd → SessionMove → Session → Session

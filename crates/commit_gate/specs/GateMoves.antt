@@ -9,7 +9,7 @@ use Rattle.core_laws.specs.Joined.{Parts, PartsHold}
 use Rattle.core_laws.specs.Moves.{GateMoves}
 use Rattle.core_laws.specs.TamperScenarios.{TamperScenario}
 use Rattle.core_laws.specs.Stores.{Store}
-use Rattle.store_commit.specs.declared.gate.Doubted.{Doubted}
+use Rattle.crash_core.specs.declared.change.DoubtedChange.{DoubtedChange}
 use Rattle.store_commit.specs.Sides.{Sides}
 use Rattle.commit_gate.specs.FinishedPhases.{phase_under}
 use Rattle.commit_gate.specs.Readings.{IsTiedUnder}
@@ -27,7 +27,7 @@ pub record HandsBack (store : Store) (from : Parts) (file : ℕ) (slot : SlotPar
 -- So each call of the gate is a move, and moves in any order are one run of the core machine.
 abbrev pub RestingGatesMove : Type 0
 RestingGatesMove =
-    (store : Store) (scenario : TamperScenario) (from : Parts) (file : ℕ) (slot : SlotPart) (g : Sides) (doubt : Option Doubted) (holds : List (Option ℕ)) (view : GateView)
+    (store : Store) (scenario : TamperScenario) (from : Parts) (file : ℕ) (slot : SlotPart) (g : Sides) (doubt : Option DoubtedChange) (holds : List (Option ℕ)) (view : GateView)
     → PartsHold (phase_under store scenario) from → (to : StepsTo store scenario (Some (record { file = file; state = (from.slots file).file })) from.gate g doubt holds view)
     → IsGateOf store g doubt holds to.card → IsTiedUnder store scenario view g.dir.entries g.counter doubt → (IsTrusted (phase_under store scenario) directory_file → IsTrue g.file.honest)
     → HandsBack store from file slot view

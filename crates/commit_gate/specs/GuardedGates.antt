@@ -11,12 +11,11 @@ use Rattle.crash_core.specs.DeviceKeys.{directory_key}
 use Rattle.core_laws.specs.TamperScenarios.{TamperScenario}
 use Rattle.core_laws.specs.Stores.{Store, replay_at}
 use Rattle.core_laws.specs.Answered.{AreAnswered}
-use Rattle.store_commit.specs.declared.gate.Doubted.{Doubted}
-use Rattle.store_commit.specs.Changes.{change_of}
+use Rattle.crash_core.specs.declared.change.DoubtedChange.{DoubtedChange}
 use Rattle.store_commit.specs.Gates.{GateValue}
 use Rattle.commit_gate.specs.CurrentFiles.{AreFilesCurrent}
 use Rattle.commit_gate.specs.Journals.{IsJournal, JournalValue}
-use Rattle.core_laws.specs.Ties.{DoubtedChange, IsTied}
+use Rattle.core_laws.specs.Ties.{IsTied}
 use Rattle.call_rules.specs.OpenHandles.{AreOpen}
 use Rattle.commit_gate.specs.declared.guarded_gate.Closing.{Closing}
 
@@ -27,9 +26,6 @@ pub record GuardedGateValue (F R : Type 0) : Type 0 where
   pub closing : Option Closing
 
 -- the gate's commit in doubt, in the words of the core machine
-abbrev pub change_in_doubt : Option Doubted → Option DoubtedChange
-change_in_doubt None = None
-change_in_doubt (Some d) = Some (record { number = d.number; change = change_of d.change })
 
 -- the handle that the landing of a call closes
 abbrev pub closing_of : (session : ℕ) → Call → Option Closing
@@ -42,7 +38,7 @@ AreHandlesTied store knows entries table =
     (scenario : TamperScenario) → AreAnswered store scenario knows.all → AreOpen entries table (replay_at store scenario knows.all).state.sessions
 
 -- The handle is the one that the landing of the commit in doubt closes.
-abbrev pub IsClosingTied : Store → GateView → Option Doubted → Option Closing → Type 0
+abbrev pub IsClosingTied : Store → GateView → Option DoubtedChange → Option Closing → Type 0
 IsClosingTied store knows None closing = closing ≡ None
 IsClosingTied store knows (Some d) closing =
     (scenario : TamperScenario) (doubt : Doubt) → AreAnswered store scenario knows.all → (replay_at store scenario knows.all).doubt ≡ Some doubt → closing ≡ closing_of doubt.session doubt.call
@@ -50,7 +46,7 @@ IsClosingTied store knows (Some d) closing =
 -- What always holds of a gate behind its lock.
 pub record GateInvariant {F R : Type 0} (store : Store) (gate : GateValue F R) (knows : GateView) (closing : Option Closing) : Type 0 where
   pub journal : IsJournal store knows
-  pub tied : IsTied store knows gate.dir.dir.entries gate.counter (change_in_doubt gate.doubt)
+  pub tied : IsTied store knows gate.dir.dir.entries gate.counter gate.doubt
   pub handles : AreHandlesTied store knows gate.dir.dir.entries gate.open_handles
   pub closes : IsClosingTied store knows gate.doubt closing
   pub directory_key : gate.dir.dir.tsk ≡ directory_key store.keys

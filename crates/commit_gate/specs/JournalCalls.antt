@@ -44,10 +44,6 @@ pub record IsHeldUp (s : ReplayState) (session : ℕ) (call : Call) (reply : Rep
 abbrev pub IsToldAlone : ReplayState → (session : ℕ) → Call → Reply → Type 0
 IsToldAlone s session call reply = IsMeantAlone s session call reply ⊎ IsHeldUp s session call reply
 
--- the record of such a call
-abbrev pub alone_record : (session number : ℕ) → Call → Reply → HistoryRecord
-alone_record session number call reply = record { event = CallEvent session number call reply Unchanged; tag = None }
-
 -- The session is as its next event leaves it, but for its seat and its count: it was the store's with some other state, and under each
 -- tamper scenario where all is answered it stands so behind the event.
 pub record IsMovedBy {E : Type 0} (store : Store) (gate : GateView) (r : HistoryRecord) (s : CallerSession E) : Type 0 where

@@ -1,5 +1,7 @@
 -- Answers to a call on an object that the object's file has a part in, and that change nothing: what is asked of the call, and of the reply.
 use Rattle.std.specs.Prelude.{◌≡◌, ◌+◌, ◌<◌, ◌^◌, ℕ, true, false, List, length, Option, Some, None}
+use Rattle.store_model.specs.declared.event.Mark.TheVariants.{Unchanged}
+use Rattle.history_seats.specs.Changes.{call_record}
 use Rattle.std.specs.List.{list_any}
 use Rattle.tee_types.specs.declared.call.Call.{Call}
 use Rattle.tee_types.specs.declared.call.Call.TheVariants.{Info, Open, Read, Truncate, Write}
@@ -28,7 +30,6 @@ use Rattle.core_laws.specs.Mapped.{IsMapped}
 use Rattle.core_laws.specs.ReadLaws.{IsAdmitted, IsLive, IsOpening}
 use Rattle.core_laws.specs.Decodings.{IsReal, wrap_of}
 use Rattle.core_laws.specs.Stores.{Store, entries_at, entry_named, replay_at}
-use Rattle.core_laws.specs.EventAnswers.{unchanged_record}
 
 -- The machine does such a call on an object of that size, if it finds no damage.
 abbrev pub DependsOnFile : MachineState → (session size : ℕ) → Call → Type 0
@@ -58,7 +59,7 @@ replay_tag file generation version = record { file = file; generation = generati
 
 -- the record of such a call
 abbrev pub told_record : (session number : ℕ) → Call → Reply → (file generation : ℕ) → Version → HistoryRecord
-told_record session number call reply file generation version = unchanged_record session number call reply (Some (replay_tag file generation version))
+told_record session number call reply file generation version = call_record session number call reply Unchanged (Some (replay_tag file generation version))
 
 -- The file failed: the reply accuses it, under each tamper scenario.
 abbrev pub FailedFilesAreLegal : Type 0

@@ -13,7 +13,7 @@ use Rattle.history_seats.specs.Views.{GateView, SlotView}
 use Rattle.core_laws.specs.TamperScenarios.{TamperScenario}
 use Rattle.core_laws.specs.Stores.{Store, replay_at}
 use Rattle.core_laws.specs.Answered.{AreAnswered, IsFairAt}
-use Rattle.store_commit.specs.declared.gate.Doubted.{Doubted}
+use Rattle.crash_core.specs.declared.change.DoubtedChange.{DoubtedChange}
 use Rattle.call_rules.specs.OpenLaws.{IsOpenedFile}
 
 -- the tag names the version that is given for the slot's file and generation, and nothing in doubt
@@ -25,7 +25,7 @@ abbrev pub slot_record : Store → GateView → SlotView → (session number : �
 slot_record store knows slot session number call reply = record_of (CallEvent session number call reply Unchanged) (Some slot) (versions_given store knows slot)
 
 -- No commit is in doubt, the reply accuses no other file, and is fair; a handle that it gives is on the slot's file.
-pub record MayBeTold (store : Store) (doubt : Option Doubted) (entries : List (Option DirEntry)) (knows : GateView) (slot : SlotView) (session number : ℕ) (call : Call) (reply : Reply) : Type 0 where
+pub record MayBeTold (store : Store) (doubt : Option DoubtedChange) (entries : List (Option DirEntry)) (knows : GateView) (slot : SlotView) (session number : ℕ) (call : Call) (reply : Reply) : Type 0 where
   pub calm : doubt ≡ None
   pub fault : (n : ℕ) → fault_in_reply reply ≡ Some n → n ≡ slot.file
   pub fair : (scenario : TamperScenario) → IsFairAt store scenario knows.all (slot_record store knows slot session number call reply)

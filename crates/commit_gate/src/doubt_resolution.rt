@@ -51,7 +51,7 @@ impl<F: StoreFile + Drop, R: RpmbPort + Drop, L: StoreName> GuardedGate<F, R, L>
         ensures passed { OnOk result ((R.state self.new.gate.host.port).faults ≡ (R.state self.old.gate.host.port).faults) }
         ensures cause { IfErr result (StaysDoubted self.old.gate.host.key self.old.gate.counter (R.state self.old.gate.host.port) (R.state self.new.gate.host.port)) }
     {
-        let _number = self.gate.doubt();
+        self.gate.reveal_invariant();
         let resolved = self.gate.resolve(nonce)?;
         match resolved {
             Resolved::Landed(number) => {

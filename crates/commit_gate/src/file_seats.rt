@@ -62,9 +62,8 @@ impl<F: StoreFile + Drop, R: RpmbPort + Drop, L: StoreName> GuardedGate<F, R, L>
         self.gate.release_file(session);
     }
 
-    /// The card's counter, while no commit is in doubt.
+    /// The card's counter, without the commit in doubt where one is.
     pub fn counter(&self) -> u32
-        requires { self.now.gate.doubt ≡ None }
         ensures { result ≡ self.now.gate.counter }
     {
         self.gate.counter()

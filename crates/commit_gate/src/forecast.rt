@@ -22,8 +22,7 @@ impl<F: StoreFile + Drop, R: RpmbPort + Drop, L: StoreName> GuardedGate<F, R, L>
         ensures place { result.place ≡ length self.now.journal.knows.all }
         ensures told { IsForecastAt L.store self.now.journal.knows.all session.now.number call.now result }
     {
-        // Tells how entries and open handles stand for the machine.
-        let _doubt = self.doubt();
+        self.reveal_invariant();
         let held = self.totals(session.app());
         Forecast {
             place: self.journal.len(),

@@ -19,12 +19,12 @@ impl<F: StoreFile + Drop, R: RpmbPort + Drop, L: StoreName> Catalog for GuardedG
     ghost handles = { λ g. g.gate.open_handles };
 
     fn look(&self, app: AppId, id: ObjectId) -> Option<Held> {
-        let _doubt = self.doubt();
+        self.reveal_invariant();
         self.gate.look(app, id)
     }
 
     fn totals(&self, app: AppId) -> Totals {
-        let _doubt = self.doubt();
+        self.reveal_invariant();
         self.gate.totals(app)
     }
 

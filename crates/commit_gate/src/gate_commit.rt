@@ -7,7 +7,6 @@ ghost use Rattle.history_seats.specs.Changes.{slot_renewed, together, with_recor
 ghost use Rattle.history_seats.specs.Rule.{Agrees};
 ghost use Rattle.core_laws.specs.Sessions.{Extends};
 ghost use Rattle.store_commit.specs.Causes.{DoubtIsByCard, EndCause, EndIsDrawn, EndNotDrawn, EndNotOfCard, KeepsPortArms, StaysCalm, counts};
-ghost use Rattle.store_commit.specs.Changes.{change_of};
 ghost use Rattle.store_commit.specs.Counts.{EndCounts};
 ghost use Rattle.store_commit.specs.Ends.{Leaves, Throughout};
 ghost use Rattle.store_commit.specs.Gates.{LeavesHolds, doubt_left, gate_sides};
@@ -81,8 +80,8 @@ impl<F: StoreFile + Drop, R: RpmbPort + Drop, L: StoreName> GuardedGate<F, R, L>
         requires table { slot.table ≡ L.store.table }
         requires calm { IsCalm L.store self.old.journal.knows session.old }
         requires ready { IsReadyCommit L.store self.old.journal.knows self.old.gate.dir.dir.entries self.old.gate.counter session.old.number session.old.made
-            call reply (change_of change) slot.knows N.versions }
-        requires held { HoldsNewFile self.old.gate.holds call (change_of change) }
+            call reply change slot.knows N.versions }
+        requires held { HoldsNewFile self.old.gate.holds call change }
         requires fault { fault_in_reply reply ≡ None }
         requires may { MayMove session.old.state step }
         requires moved { LeavesSession L.store self.old.journal.knows session.old.number call (moved_by session.old.state step) }
@@ -130,8 +129,7 @@ impl<F: StoreFile + Drop, R: RpmbPort + Drop, L: StoreName> GuardedGate<F, R, L>
         ensures doubtful { DoubtIsByCard result.end }
         ensures arms { KeepsPortArms (R.state self.old.gate.host.port) (R.state self.new.gate.host.port) }
     {
-        // Tells that the counter is 32 bits, and what always holds of the gate.
-        let _counter = self.gate.counter();
+        self.gate.reveal_invariant();
         let end = self.gate.commit(change, session.entropy_mut());
         let AppendedCall { place, slot } = write_end::<F, R, L, E, N>(
             &mut self.gate,

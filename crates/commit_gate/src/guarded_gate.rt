@@ -1,6 +1,6 @@
 //! The gate of a phase.
 
-ghost use Rattle.std.specs.Prelude.{◌≡◌, ◌≤◌, OnOk};
+ghost use Rattle.std.specs.Prelude.{◌≡◌, ◌≤◌, ◌<◌, ◌^◌, OnOk};
 ghost use Rattle.std.specs.Option.{option_map};
 ghost use Rattle.crash_core.specs.DirectoryLaws.{AreEntries};
 ghost use Rattle.store_commit.specs.Gates.{DoubtStands, gate_sides};
@@ -74,15 +74,22 @@ impl<F: StoreFile + Drop, R: RpmbPort + Drop, L: StoreName> GuardedGate<F, R, L>
 
     /// The number of the commit in doubt, if one is.
     pub fn doubt(&self) -> Option<u32>
-        ensures number { result ≡ option_map (λ d. d.number) self.now.gate.doubt }
+        ensures { result ≡ option_map (λ d. d.number) self.now.gate.doubt }
+    {
+        self.gate.doubt()
+    }
+
+    /// Tells a caller's proof what always holds behind the lock; at run time it does nothing.
+    pub fn reveal_invariant(&self)
         // What always holds behind the lock, and what the entries and the open handles tell of the machine.
         ensures guarded { GateInvariant L.store self.now.gate self.now.journal.knows self.now.closing }
         ensures entries { AreEntries self.now.gate.dir.dir.entries }
         ensures machine { KnowsMachine L.store self.now.journal.knows self.now.gate.dir.dir.entries self.now.gate.open_handles }
         // How directory and card stand to each other.
         ensures stands { DoubtStands (gate_sides F.state R.state self.now.gate) self.now.gate.doubt }
+        ensures counter { self.now.gate.counter < 2 ^ 32 }
     {
-        self.gate.doubt()
+        self.gate.reveal_invariant();
     }
 
     /// Makes room for one commit, for one handle more and for two events: a landing, and a call.

@@ -5,7 +5,7 @@ ghost use Rattle.store_model.specs.History.{count_of};
 ghost use Rattle.store_model.specs.Record.{events_of, fault_in_reply};
 ghost use Rattle.history_seats.specs.Numbers.{is_in, without};
 ghost use Rattle.history_seats.specs.Rule.{Agrees};
-ghost use Rattle.history_seats.specs.Changes.{IsFitting, IsOf, record_of, seat_renewed, together, view_in, with_record};
+ghost use Rattle.history_seats.specs.Changes.{IsFitting, IsOf, record_of, seat_renewed, together, view_in, with_record, call_record};
 ghost use Rattle.core_laws.specs.TamperScenarios.{TamperScenario};
 ghost use Rattle.core_laws.specs.Stores.{replay_at};
 ghost use Rattle.core_laws.specs.Answered.{AreAnswered, IsFairAt};
@@ -14,7 +14,7 @@ ghost use Rattle.commit_gate.specs.declared.own_doubt.OwnDoubt.{OwnDoubt as OwnD
 ghost use Rattle.commit_gate.specs.Journals.{AreDoubtsHeld, IsJournal};
 ghost use Rattle.commit_gate.specs.CallerSessions.{IsCallerOf, session_value};
 ghost use Rattle.commit_gate.specs.SessionViews.{BeginsAll, SeesAll, doubt_learnt, pass_shown, shown, state_learnt};
-ghost use Rattle.commit_gate.specs.JournalCalls.{IsMovedBy, IsToldAlone, alone_record, pass_view};
+ghost use Rattle.commit_gate.specs.JournalCalls.{IsMovedBy, IsToldAlone, pass_view};
 
 use crate::doubt_outcome::Settled;
 use crate::journal::Journal;
@@ -133,9 +133,9 @@ pub fn answer<L: StoreName, E: Entropy>(
     requires room { 1 ≤ journal.old.spare }
     requires fault { fault_in_reply reply ≡ None }
     requires told { (scenario : TamperScenario) → AreAnswered L.store scenario journal.old.knows.all → IsToldAlone (replay_at L.store scenario journal.old.knows.all) session.old.number call reply }
-    requires moved { IsMovedBy L.store journal.old.knows (alone_record session.old.number session.old.made call reply) session.old }
+    requires moved { IsMovedBy L.store journal.old.knows (call_record session.old.number session.old.made call reply Mark.Unchanged None) session.old }
     ensures place { result ≡ length journal.old.knows.all }
-    ensures knows { journal.new.knows ≡ with_record (alone_record session.old.number session.old.made call reply) journal.old.knows }
+    ensures knows { journal.new.knows ≡ with_record (call_record session.old.number session.old.made call reply Mark.Unchanged None) journal.old.knows }
     ensures spare { journal.old.spare ≤ journal.new.spare + 1 }
     ensures kept { IsJournal L.store journal.new.knows }
     ensures session { session.new ≡ record session.old { pass = pass_shown journal.new.knows session.old.pass; made = session.old.made + 1 } }

@@ -55,5 +55,5 @@ pub use own_doubt::{Landing, OwnDoubt};
 pub use placed_reply::PlacedReply;
 pub use session::Session;
 pub use session_moves::SessionMove;
-pub use store_commit::{CommitEnd, Doubted, EntryChange, Resolved};
+pub use store_commit::{CommitEnd, DoubtedChange, EntryChange, Resolved};
 pub use versions_name::VersionsName;

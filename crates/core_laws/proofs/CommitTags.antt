@@ -14,7 +14,9 @@ use Rattle.dir_records.specs.declared.entry.DirEntry.{DirEntry}
 use Rattle.history_seats.specs.Records.{Version}
 use Rattle.history_seats.specs.Views.{GateView}
 use Rattle.crash_core.specs.Entries.{name_of}
-use Rattle.crash_core.specs.EntryChanges.{Clear, EntryChange, Put}
+use Rattle.crash_core.specs.declared.change.EntryChange.{EntryChange}
+use Rattle.crash_core.specs.declared.change.EntryChange.TheVariants.{Clear, Put}
+use Rattle.crash_core.specs.declared.change.DoubtedChange.{DoubtedChange}
 use Rattle.core_laws.specs.Listed.{history_entry}
 use Rattle.core_laws.specs.TamperScenarios.{TamperScenario}
 use Rattle.core_laws.specs.Stores.{Store, replay_at}
@@ -22,7 +24,7 @@ use Rattle.core_laws.proofs.CallSessions.{entries_tag, free_tag}
 use Rattle.core_laws.proofs.Mending.{none_some, some_same}
 use Rattle.core_laws.specs.MachineChanges.{IsAtHand}
 use Rattle.core_laws.specs.OwnEntries.{AreTold}
-use Rattle.core_laws.specs.Ties.{DoubtedChange, IsTied}
+use Rattle.core_laws.specs.Ties.{IsTied}
 use Rattle.core_laws.specs.CommitMaps.{IsCommitUnder}
 use Rattle.core_laws.proofs.Told.{tied_tell}
 

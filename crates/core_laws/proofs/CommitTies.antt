@@ -17,12 +17,14 @@ use Rattle.history_seats.specs.Directory.{entries_committed, given_version, has_
 use Rattle.history_seats.specs.CommitLaws.{GivesInDoubt, GivesMade}
 use Rattle.history_seats.specs.Tags.{HasRightTag}
 use Rattle.history_seats.specs.Views.{GateView}
-use Rattle.history_seats.specs.Changes.{landing_of, with_record}
+use Rattle.history_seats.specs.Changes.{landing_of, with_record, call_record}
 use Rattle.history_seats.proofs.DoubtedEntries.{has_committed}
 use Rattle.history_seats.proofs.Givens.{directory-snoc}
 use Rattle.history_seats.proofs.GivenStays.{doubt-gives, given-there, landing-gives, made-gives}
 use Rattle.history_seats.proofs.OpenDoubts.{doubt-opens}
-use Rattle.crash_core.specs.EntryChanges.{EntryChange, changed}
+use Rattle.crash_core.specs.declared.change.EntryChange.{EntryChange}
+use Rattle.crash_core.specs.EntryChanges.{changed}
+use Rattle.crash_core.specs.declared.change.DoubtedChange.{DoubtedChange}
 use Rattle.core_laws.specs.TamperScenarios.{TamperScenario}
 use Rattle.core_laws.specs.Stores.{Store, entries_at, replay_at}
 use Rattle.core_laws.specs.Mapped.{landed_version}
@@ -30,8 +32,8 @@ use Rattle.core_laws.specs.Answered.{AreAnswered, IsAnsweredAt}
 use Rattle.core_laws.proofs.Answers.{answered-front, answered-last, replay_state-snoc}
 use Rattle.core_laws.specs.Matched.{AreMatched}
 use Rattle.core_laws.specs.CallChanges.{IsEntryCommit}
-use Rattle.core_laws.specs.Ties.{DoubtedChange, IsReplayDoubt, IsTied, IsTiedDoubt, MakesEntries}
-use Rattle.core_laws.specs.TieLaws.{AreRising, DoubtfulCommitsKeepTies, LandingsKeepTies, MadeCommitsKeepTies, record_of_commit}
+use Rattle.core_laws.specs.Ties.{IsReplayDoubt, IsTied, IsTiedDoubt, MakesEntries}
+use Rattle.core_laws.specs.TieLaws.{AreRising, DoubtfulCommitsKeepTies, LandingsKeepTies, MadeCommitsKeepTies}
 use Rattle.core_laws.proofs.Rising.{risen}
 use Rattle.core_laws.proofs.LastDoubts.{closed}
 use Rattle.core_laws.proofs.Matching.{Follow, matched_committed}
@@ -52,9 +54,9 @@ module _ (store : Store) (view : GateView) (entries : List (Option DirEntry)) (c
   abbrev now : AreMatched store.keys entries (entries_at store all).now (given_version store.mounted all)
   now = matched_now store view entries counter doubt tied
 
-  module _ (right : HasRightTag store.mounted all (record_of_commit session number call reply (Made commit) tag)) (c : IsEntryCommit store entries counter session call change tag tag.committed) where
+  module _ (right : HasRightTag store.mounted all (call_record session number call reply (Made commit) (Some tag))) (c : IsEntryCommit store entries counter session call change tag tag.committed) where
     abbrev made : HistoryRecord
-    made = record_of_commit session number call reply (Made commit) tag
+    made = call_record session number call reply (Made commit) (Some tag)
 
     abbrev after_made : List HistoryRecord
     after_made = all ++ made ∷ []
@@ -92,11 +94,11 @@ module _ (store : Store) (view : GateView) (entries : List (Option DirEntry)) (c
       doubt = λ n open_. closed n view.decided all made refl refl open_;
     }
 
-  module _ (right : HasRightTag store.mounted all (record_of_commit session number call reply (Doubtful commit) tag)) (within : view.decided ≤ length view.all)
+  module _ (right : HasRightTag store.mounted all (call_record session number call reply (Doubtful commit) (Some tag))) (within : view.decided ≤ length view.all)
       (c : IsEntryCommit store entries counter session call change tag tag.doubted)
       (makes : (scenario : TamperScenario) → AreAnswered store scenario view.all → is_commit_due (replay_at store scenario view.all) session call ≡ true → MakesEntries (replay_at store scenario view.all) session call entries change) where
     abbrev doubtful : HistoryRecord
-    doubtful = record_of_commit session number call reply (Doubtful commit) tag
+    doubtful = call_record session number call reply (Doubtful commit) (Some tag)
 
     abbrev after_doubt : List HistoryRecord
     after_doubt = all ++ doubtful ∷ []

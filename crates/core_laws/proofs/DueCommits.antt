@@ -18,7 +18,9 @@ use Rattle.dir_records.specs.declared.entry.DirEntry.{DirEntry}
 use Rattle.history_seats.specs.Records.{HistoryRecord, Version}
 use Rattle.history_seats.specs.Views.{GateView}
 use Rattle.crash_core.specs.Entries.{name_of}
-use Rattle.crash_core.specs.EntryChanges.{Clear, EntryChange, IsNextEntry, Put}
+use Rattle.crash_core.specs.declared.change.EntryChange.{EntryChange}
+use Rattle.crash_core.specs.declared.change.EntryChange.TheVariants.{Clear, Put}
+use Rattle.crash_core.specs.EntryChanges.{IsNextEntry}
 use Rattle.core_laws.specs.Listed.{IsTagOf}
 use Rattle.core_laws.specs.TamperScenarios.{TamperScenario, object_under}
 use Rattle.core_laws.specs.Stores.{Store, replay_at}

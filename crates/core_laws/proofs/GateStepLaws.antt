@@ -20,7 +20,9 @@ use Rattle.history_seats.specs.Changes.{with_record}
 use Rattle.crash_core.specs.DeviceKeys.{directory_key}
 use Rattle.crash_core.specs.Directory.{directory_of}
 use Rattle.crash_core.specs.EntryLists.{IsUnnamed}
-use Rattle.crash_core.specs.EntryChanges.{Clear, EntryChange, Put, changed, file_put}
+use Rattle.crash_core.specs.declared.change.EntryChange.{EntryChange}
+use Rattle.crash_core.specs.declared.change.EntryChange.TheVariants.{Clear, Put}
+use Rattle.crash_core.specs.EntryChanges.{changed, file_put}
 use Rattle.crash_core.specs.Mounting.{Held}
 use Rattle.crash_core.specs.Sights.{Misses, Shows}
 use Rattle.crash_core.specs.CoreState.{Core, IsTrusted, PendingCommit, Phase, put}

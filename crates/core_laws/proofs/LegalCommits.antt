@@ -1,5 +1,6 @@
 -- A commit that changes the gate's entries as its call does is legal, and keeps the map in step.
-use Rattle.std.proofs.Common.{◌≡◌, ◌+◌, ◌<◌, ℕ, true, false, true≢false, List, [], ◌∷◌, ◌++◌, length, Option, None, refl, sym, ap, ◌∙◌, subst, arith}
+use Rattle.std.proofs.Common.{◌≡◌, ◌+◌, ◌<◌, ℕ, true, false, true≢false, List, [], ◌∷◌, ◌++◌, length, Option, None, refl, sym, ap, ◌∙◌, subst, arith, Some}
+use Rattle.history_seats.specs.Changes.{call_record}
 use Rattle.std.specs.Prelude.{◌^◌}
 use Rattle.tee_types.specs.declared.call.Call.{Call}
 use Rattle.tee_types.specs.declared.call.Call.TheVariants.{Create, Delete, Rename, Truncate, Write}
@@ -16,7 +17,8 @@ use Rattle.history_seats.specs.Records.{HistoryRecord, Version}
 use Rattle.history_seats.specs.Directory.{given_version}
 use Rattle.history_seats.specs.Tags.{HasRightTag}
 use Rattle.history_seats.specs.Views.{GateView}
-use Rattle.crash_core.specs.EntryChanges.{EntryChange}
+use Rattle.crash_core.specs.declared.change.EntryChange.{EntryChange}
+use Rattle.crash_core.specs.declared.change.DoubtedChange.{DoubtedChange}
 use Rattle.core_laws.specs.TamperScenarios.{TamperScenario}
 use Rattle.core_laws.specs.Stores.{Store, replay_at}
 use Rattle.core_laws.specs.Mapped.{IsMappedBoth}
@@ -24,8 +26,7 @@ use Rattle.core_laws.specs.CommitLaws.{commit_record}
 use Rattle.core_laws.specs.EntryLaws.{EndsKeepMaps}
 use Rattle.core_laws.specs.Answered.{AreAnswered, IsLegalAt}
 use Rattle.core_laws.proofs.SessionSteps.{sessions_at}
-use Rattle.core_laws.specs.Ties.{DoubtedChange, IsTied}
-use Rattle.core_laws.specs.TieLaws.{record_of_commit}
+use Rattle.core_laws.specs.Ties.{IsTied}
 use Rattle.core_laws.specs.CommitMaps.{IsCommitUnder, place_of}
 use Rattle.core_laws.specs.CommitAnswers.{CommitsAreLegal}
 use Rattle.core_laws.proofs.CommitTags.{commit_tagged}
@@ -61,14 +62,14 @@ module _ (store : Store) (scenario : TamperScenario) (view : GateView) (entries 
     counted answered = tied.counter scenario answered
 
     made_legal : IsCommitUnder store scenario view entries counter session call change tag tag.committed → tag.doubted ≡ None
-        → IsLegalAt store scenario all (record_of_commit session number call (meant_by s session call) (Made (counter + 1)) tag)
+        → IsLegalAt store scenario all (call_record session number call (meant_by s session call) (Made (counter + 1)) (Some tag))
     made_legal c none =
         let reply = meant_by s session call in
-        let r = record_of_commit session number call reply (Made (counter + 1)) tag in
+        let r = call_record session number call reply (Made (counter + 1)) (Some tag) in
         let ends : EndsKeepMaps store scenario all session number call reply (place_of tag) tag.committed = commits_keep store scenario view entries counter doubt tied session number call reply change tag tag.committed c in
         let right : HasRightTag store.mounted all r = (commits_right store view entries counter doubt session number call reply (counter + 1) tag change tied).made c.commit none in
         let same : r ≡ commit_record session number call reply (Made (counter + 1)) (place_of tag) tag.committed None =
-        λ i. record_of_commit session number call reply (Made (counter + 1)) (record tag { doubted = none i }) in
+        λ i. call_record session number call reply (Made (counter + 1)) (Some (record tag { doubted = none i })) in
         let kept : IsMappedBoth store scenario 0 (all ++ r ∷ []) =
         subst (λ (x : HistoryRecord). HasRightTag store.mounted all x → IsMappedBoth store scenario 0 (all ++ x ∷ [])) (sym same) (ends.made (counter + 1)) right in
         record {
@@ -85,14 +86,14 @@ module _ (store : Store) (scenario : TamperScenario) (view : GateView) (entries 
         }
 
     doubtful_legal : IsCommitUnder store scenario view entries counter session call change tag tag.doubted → tag.committed ≡ given_version store.mounted all tag.file tag.generation
-        → (cause : Cause) → file_at_fault cause ≡ None → IsLegalAt store scenario all (record_of_commit session number call (NotAvailable cause) (Doubtful (counter + 1)) tag)
+        → (cause : Cause) → file_at_fault cause ≡ None → IsLegalAt store scenario all (call_record session number call (NotAvailable cause) (Doubtful (counter + 1)) (Some tag))
     doubtful_legal c given cause none =
         let reply = NotAvailable cause in
-        let r = record_of_commit session number call reply (Doubtful (counter + 1)) tag in
+        let r = call_record session number call reply (Doubtful (counter + 1)) (Some tag) in
         let ends : EndsKeepMaps store scenario all session number call reply (place_of tag) tag.doubted = commits_keep store scenario view entries counter doubt tied session number call reply change tag tag.doubted c in
         let right : HasRightTag store.mounted all r = (commits_right store view entries counter doubt session number call reply (counter + 1) tag change tied).doubtful c.commit given in
         let same : r ≡ commit_record session number call reply (Doubtful (counter + 1)) (place_of tag) (given_version store.mounted all tag.file tag.generation) tag.doubted =
-        λ i. record_of_commit session number call reply (Doubtful (counter + 1)) (record tag { committed = given i }) in
+        λ i. call_record session number call reply (Doubtful (counter + 1)) (Some (record tag { committed = given i })) in
         let kept : IsMappedBoth store scenario 0 (all ++ r ∷ []) =
         subst (λ (x : HistoryRecord). HasRightTag store.mounted all x → IsMappedBoth store scenario 0 (all ++ x ∷ [])) (sym same) (ends.doubtful (counter + 1)) right in
         record {
@@ -113,7 +114,7 @@ module _ (store : Store) (scenario : TamperScenario) (view : GateView) (entries 
 pub commits_legal : CommitsAreLegal
 commits_legal store scenario view entries counter doubt tied session number call change tag declared fits = record {
   made = λ c none reply is.
-      subst (λ (r : Reply). IsLegalAt store scenario view.all (record_of_commit session number call r (Made (counter + 1)) tag)) (sym is)
+      subst (λ (r : Reply). IsLegalAt store scenario view.all (call_record session number call r (Made (counter + 1)) (Some tag))) (sym is)
       (made_legal store scenario view entries counter doubt tied session number tag declared fits call change c none);
   doubtful = doubtful_legal store scenario view entries counter doubt tied session number tag declared fits call change;
 }

@@ -18,7 +18,9 @@ use Rattle.history_seats.specs.Versions.{is_entry_of}
 use Rattle.history_seats.specs.Directory.{entries_committed, renamed, with_entry, with_name, without_entry}
 use Rattle.crash_core.specs.Entries.{name_of}
 use Rattle.crash_core.specs.EntryLists.{AreDistinct, AreSingle, entry_at}
-use Rattle.crash_core.specs.EntryChanges.{Clear, Enters, EntryChange, IsChange, IsEntryOf, IsNextEntry, IsPlaceOf, Put, changed, index_of}
+use Rattle.crash_core.specs.declared.change.EntryChange.{EntryChange}
+use Rattle.crash_core.specs.declared.change.EntryChange.TheVariants.{Clear, Put}
+use Rattle.crash_core.specs.EntryChanges.{Enters, IsChange, IsEntryOf, IsNextEntry, IsPlaceOf, changed, index_of}
 use Rattle.crash_core.proofs.EntryMaps.{self}
 use Rattle.crash_core.proofs.Lists.{set_else, set_here}
 use Rattle.crash_core.proofs.Names.{name_test}

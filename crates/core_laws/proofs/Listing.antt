@@ -18,7 +18,9 @@ use Rattle.history_seats.specs.Records.{Version}
 use Rattle.history_seats.specs.Mounts.{Entry}
 use Rattle.history_seats.specs.Directory.{entries_committed}
 use Rattle.crash_core.specs.Entries.{name_of}
-use Rattle.crash_core.specs.EntryChanges.{Clear, EntryChange, IsNextEntry, Put, changed, index_of}
+use Rattle.crash_core.specs.declared.change.EntryChange.{EntryChange}
+use Rattle.crash_core.specs.declared.change.EntryChange.TheVariants.{Clear, Put}
+use Rattle.crash_core.specs.EntryChanges.{IsNextEntry, changed, index_of}
 use Rattle.crash_core.specs.DirectoryLaws.{AreEntries}
 use Rattle.core_laws.specs.Listed.{AreListed, IsTagOf, IsTagOfChange}
 use Rattle.core_laws.proofs.ListedEntries.{commits_keep_listed}

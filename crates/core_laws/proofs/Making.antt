@@ -16,7 +16,9 @@ use Rattle.store_model.proofs.MadeChanges.{commits_make_changes}
 use Rattle.dir_records.specs.declared.entry.DirEntry.{DirEntry}
 use Rattle.crash_core.specs.Entries.{name_of}
 use Rattle.crash_core.specs.EntryLists.{entry_at}
-use Rattle.crash_core.specs.EntryChanges.{Clear, EntryChange, IsEntryOf, IsNewEntry, IsNextEntry, Put, index_of}
+use Rattle.crash_core.specs.declared.change.EntryChange.{EntryChange}
+use Rattle.crash_core.specs.declared.change.EntryChange.TheVariants.{Clear, Put}
+use Rattle.crash_core.specs.EntryChanges.{IsEntryOf, IsNewEntry, IsNextEntry, index_of}
 use Rattle.core_laws.proofs.Mending.{some_same}
 use Rattle.core_laws.specs.CallChanges.{IsCallChange}
 use Rattle.core_laws.specs.Ties.{MakesEntries}

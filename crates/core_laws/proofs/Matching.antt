@@ -12,7 +12,9 @@ use Rattle.history_seats.specs.Versions.{is_entry_of}
 use Rattle.history_seats.specs.Directory.{entries_committed, has_entry}
 use Rattle.history_seats.proofs.Lists.{both_true, or_left, or_right}
 use Rattle.crash_core.specs.EntryLists.{entry_at}
-use Rattle.crash_core.specs.EntryChanges.{Clear, EntryChange, Put, changed, index_of}
+use Rattle.crash_core.specs.declared.change.EntryChange.{EntryChange}
+use Rattle.crash_core.specs.declared.change.EntryChange.TheVariants.{Clear, Put}
+use Rattle.crash_core.specs.EntryChanges.{changed, index_of}
 use Rattle.crash_core.proofs.Lists.{set_else, set_here}
 use Rattle.core_laws.specs.GateParts.{IsVersionOf}
 use Rattle.core_laws.specs.Listed.{AreListed, history_entry}

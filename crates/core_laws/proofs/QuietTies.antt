@@ -26,7 +26,9 @@ use Rattle.history_seats.proofs.DoubtedEntries.{landed_entry}
 use Rattle.history_seats.proofs.GivenStays.{given-there, unchanged-leaves}
 use Rattle.history_seats.proofs.Givens.{version-snoc}
 use Rattle.history_seats.proofs.OpenDoubts.{doubt-stays-open, doubt-was-open}
-use Rattle.crash_core.specs.EntryChanges.{EntryChange, IsChange, changed}
+use Rattle.crash_core.specs.declared.change.EntryChange.{EntryChange}
+use Rattle.crash_core.specs.EntryChanges.{IsChange, changed}
+use Rattle.crash_core.specs.declared.change.DoubtedChange.{DoubtedChange}
 use Rattle.core_laws.specs.Listed.{AreListed}
 use Rattle.core_laws.specs.TamperScenarios.{TamperScenario}
 use Rattle.core_laws.specs.Stores.{Store, entries_at, replay_at}
@@ -35,7 +37,7 @@ use Rattle.core_laws.specs.EntryLaws.{AreUnique}
 use Rattle.core_laws.proofs.Answers.{answered-front, replay_state-snoc}
 use Rattle.core_laws.proofs.MapSteps.{quiet_after}
 use Rattle.core_laws.specs.Matched.{AreMatched}
-use Rattle.core_laws.specs.Ties.{DoubtedChange, IsDoubtTied, IsReplayDoubt, IsTied, MakesEntries}
+use Rattle.core_laws.specs.Ties.{IsDoubtTied, IsReplayDoubt, IsTied, MakesEntries}
 use Rattle.core_laws.specs.TieLaws.{AreRising, DropsKeepTies, KeepsDoubt, UnchangedEventsKeepTies}
 use Rattle.core_laws.proofs.Rising.{risen}
 

@@ -1,5 +1,6 @@
 -- Which tags are right, in the words of the gate's entries.
 use Rattle.std.proofs.Common.{◌≡◌, ◌&&◌, ℕ, Bool, true, false, true≢false, List, [], ◌∷◌, ◌++◌, Option, Some, None, is_some, slice_index_or, refl, sym, ap, ◌∙◌, subst}
+use Rattle.history_seats.specs.Changes.{call_record}
 use Rattle.tee_types.specs.declared.call.Call.{Call}
 use Rattle.tee_types.specs.declared.call.Call.TheVariants.{Delete}
 use Rattle.tee_types.specs.declared.reply.Reply.{Reply}
@@ -16,13 +17,14 @@ use Rattle.history_seats.specs.Tags.{HasRightTag, IsTagRight}
 use Rattle.history_seats.specs.Views.{GateView}
 use Rattle.history_seats.proofs.DoubtedEntries.{moved-entry}
 use Rattle.history_seats.proofs.Givens.{directory-snoc}
-use Rattle.crash_core.specs.EntryChanges.{Clear, EntryChange, Put, changed}
+use Rattle.crash_core.specs.declared.change.EntryChange.{EntryChange}
+use Rattle.crash_core.specs.declared.change.EntryChange.TheVariants.{Clear, Put}
+use Rattle.crash_core.specs.EntryChanges.{changed}
 use Rattle.crash_core.proofs.Lists.{set_here}
 use Rattle.core_laws.specs.Listed.{AreListed, history_entry}
 use Rattle.core_laws.specs.Stores.{Store, entries_at}
 use Rattle.core_laws.proofs.Mending.{some_same}
 use Rattle.core_laws.specs.CallChanges.{IsCallChange, IsEntryCommit}
-use Rattle.core_laws.specs.TieLaws.{record_of_commit}
 use Rattle.core_laws.specs.TagLaws.{CommitTagsAreRight, UnchangedTagsAreRight}
 use Rattle.core_laws.proofs.Listing.{listed_committed}
 use Rattle.core_laws.proofs.Matching.{contains_has}
@@ -69,9 +71,9 @@ module _ (store : Store) (view : GateView) (entries : List (Option DirEntry)) (c
       ap is_some c.leaves.1 ∙ sym ((λ i. has_entry (c.tagged.file i) (c.tagged.generation i) more) ∙ has)
   there (Clear index) left c = ap is_some c.leaves ∙ sym (gone call index c.makes)
 
-  tag_made : IsEntryCommit store entries counter session call change tag tag.committed → tag.doubted ≡ None → HasRightTag store.mounted view.all (record_of_commit session number call reply (Made commit) tag)
+  tag_made : IsEntryCommit store entries counter session call change tag tag.committed → tag.doubted ≡ None → HasRightTag store.mounted view.all (call_record session number call reply (Made commit) (Some tag))
   tag_made c none other of =
-      let r = record_of_commit session number call reply (Made commit) tag in
+      let r = call_record session number call reply (Made commit) (Some tag) in
       let directory = directory-snoc store.mounted view.all r in
       subst (IsTagRight store.mounted view.all r) (some_same tag other of)
       (record {
@@ -82,9 +84,9 @@ module _ (store : Store) (view : GateView) (entries : List (Option DirEntry)) (c
       })
 
   tag_doubtful : IsEntryCommit store entries counter session call change tag tag.doubted → tag.committed ≡ given_version store.mounted view.all tag.file tag.generation
-      → HasRightTag store.mounted view.all (record_of_commit session number call reply (Doubtful commit) tag)
+      → HasRightTag store.mounted view.all (call_record session number call reply (Doubtful commit) (Some tag))
   tag_doubtful c given other of =
-      let r = record_of_commit session number call reply (Doubtful commit) tag in
+      let r = call_record session number call reply (Doubtful commit) (Some tag) in
       let directory = directory-snoc store.mounted view.all r in
       subst (IsTagRight store.mounted view.all r) (some_same tag other of)
       (record {

@@ -12,7 +12,8 @@ use Rattle.history_seats.specs.Records.{Version}
 use Rattle.history_seats.specs.Mounts.{Entry}
 use Rattle.history_seats.specs.Versions.{is_entry_of}
 use Rattle.history_seats.specs.Directory.{entries_committed, renamed}
-use Rattle.crash_core.specs.EntryChanges.{Clear, EntryChange, Put}
+use Rattle.crash_core.specs.declared.change.EntryChange.{EntryChange}
+use Rattle.crash_core.specs.declared.change.EntryChange.TheVariants.{Clear, Put}
 use Rattle.crash_core.specs.DirectoryLaws.{AreEntries}
 use Rattle.core_laws.specs.Listed.{AreListed, IsInDirectory, IsTagOfChange, history_entry}
 use Rattle.core_laws.specs.Stores.{entry_named}

@@ -11,7 +11,9 @@ use Rattle.dir_records.specs.declared.entry.DirEntry.{DirEntry}
 use Rattle.history_seats.specs.Records.{Version}
 use Rattle.crash_core.specs.Entries.{name_of}
 use Rattle.crash_core.specs.EntryLists.{IsUnnamed, entry_at}
-use Rattle.crash_core.specs.EntryChanges.{Clear, EntryChange, IsEntryOf, IsNewEntry, IsNextEntry, Put, changed, index_of}
+use Rattle.crash_core.specs.declared.change.EntryChange.{EntryChange}
+use Rattle.crash_core.specs.declared.change.EntryChange.TheVariants.{Clear, Put}
+use Rattle.crash_core.specs.EntryChanges.{IsEntryOf, IsNewEntry, IsNextEntry, changed, index_of}
 use Rattle.crash_core.specs.DirectoryLaws.{AreEntries}
 use Rattle.core_laws.specs.GateParts.{IsVersionOf}
 use Rattle.core_laws.specs.Listed.{IsTagOfChange}

@@ -13,7 +13,9 @@ use Rattle.history_seats.specs.Records.{HistoryRecord, Version}
 use Rattle.history_seats.specs.Directory.{given_version}
 use Rattle.history_seats.specs.Views.{GateView}
 use Rattle.crash_core.specs.Entries.{name_of}
-use Rattle.crash_core.specs.EntryChanges.{EntryChange, Put}
+use Rattle.crash_core.specs.declared.change.EntryChange.{EntryChange}
+use Rattle.crash_core.specs.declared.change.EntryChange.TheVariants.{Put}
+use Rattle.crash_core.specs.declared.change.DoubtedChange.{DoubtedChange}
 use Rattle.core_laws.specs.TamperScenarios.{TamperScenario, object_under}
 use Rattle.core_laws.specs.Decodings.{IsReal}
 use Rattle.core_laws.specs.Stores.{Store, replay_at}
@@ -23,7 +25,7 @@ use Rattle.core_laws.specs.EntryLaws.{EndsKeepMaps}
 use Rattle.core_laws.specs.Answered.{AreAnswered}
 use Rattle.core_laws.specs.CallChanges.{IsEntryCommit}
 use Rattle.core_laws.specs.MachineChanges.{IsCallOn}
-use Rattle.core_laws.specs.Ties.{DoubtedChange, IsTied}
+use Rattle.core_laws.specs.Ties.{IsTied}
 
 -- What stands for the version that the commit leaves is the machine's object: the one that a create makes, the one that a write or a truncate
 -- leaves, and of a rename the one that stood.

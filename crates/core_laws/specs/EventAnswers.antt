@@ -4,7 +4,6 @@ use Rattle.tee_types.specs.declared.call.Call.{Call}
 use Rattle.tee_types.specs.declared.reply.Cause.{Cause}
 use Rattle.tee_types.specs.declared.reply.Reply.{Reply}
 use Rattle.tee_types.specs.declared.reply.Reply.TheVariants.{CounterSpent, NotAvailable}
-use Rattle.store_model.specs.declared.event.Event.TheVariants.{Call as CallEvent}
 use Rattle.store_model.specs.declared.event.Mark.TheVariants.{Unchanged}
 use Rattle.store_model.specs.Doubt.{Doubt}
 use Rattle.store_model.specs.Files.{is_misuse}
@@ -15,15 +14,12 @@ use Rattle.dir_records.specs.declared.entry.DirEntry.{DirEntry}
 use Rattle.history_seats.specs.Records.{HistoryRecord, Version}
 use Rattle.history_seats.specs.Settling.{IsOpenDoubt}
 use Rattle.history_seats.specs.Views.{GateView}
-use Rattle.history_seats.specs.Changes.{landing_of}
+use Rattle.history_seats.specs.Changes.{landing_of, call_record}
+use Rattle.crash_core.specs.declared.change.DoubtedChange.{DoubtedChange}
 use Rattle.core_laws.specs.TamperScenarios.{TamperScenario}
 use Rattle.core_laws.specs.Stores.{Store, replay_at}
 use Rattle.core_laws.specs.Answered.{AreAnswered, IsLegalAt}
-use Rattle.core_laws.specs.Ties.{DoubtedChange, IsTied}
-
--- the record of a call that commits nothing
-abbrev pub unchanged_record : (session number : ℕ) → Call → Reply → Option (Tag Version) → HistoryRecord
-unchanged_record session number call reply tag = record { event = CallEvent session number call reply Unchanged; tag = tag }
+use Rattle.core_laws.specs.Ties.{IsTied}
 
 -- the reply to a commit that is not made: why it was not, or that the card's counter is at its last value
 abbrev pub IsUnmade : (counter : ℕ) → Reply → Type 0
@@ -37,7 +33,7 @@ UnmadeCommitsAreLegal =
     (store : Store) (scenario : TamperScenario) (before : List HistoryRecord) (session number : ℕ) (call : Call) (reply : Reply) (tag : Option (Tag Version)) → session < length store.mounted.applications
     → is_commit_due (replay_at store scenario before) session call ≡ true → IsUnmade (replay_at store scenario before).counter reply
     → IsTagged (replay_at store scenario before) session call reply Unchanged (option_map (λ t. t.file) tag)
-    → IsLegalAt store scenario before (unchanged_record session number call reply tag)
+    → IsLegalAt store scenario before (call_record session number call reply Unchanged tag)
 
 -- While the gate has a doubt, a call that is no misuse may be answered with what kept the doubt from being resolved.
 abbrev pub UnresolvedCallsAreLegal : Type 0
@@ -45,7 +41,7 @@ UnresolvedCallsAreLegal =
     (store : Store) (scenario : TamperScenario) (view : GateView) (entries : List (Option DirEntry)) (counter : ℕ) (d : DoubtedChange) → IsTied store view entries counter (Some d)
     → AreAnswered store scenario view.all → (session number : ℕ) (call : Call) (cause : Cause) → session < length store.mounted.applications
     → is_misuse (meant_by (replay_at store scenario view.all) session call) ≡ false → is_of_card cause ≡ true
-    → IsLegalAt store scenario view.all (unchanged_record session number call (NotAvailable cause) None)
+    → IsLegalAt store scenario view.all (call_record session number call (NotAvailable cause) Unchanged None)
 
 -- The gate's doubt may land.
 abbrev pub LandingsAreLegal : Type 0

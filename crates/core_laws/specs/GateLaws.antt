@@ -14,7 +14,9 @@ use Rattle.store_model.specs.Legal.{is_commit_due}
 use Rattle.crash_core.specs.Directory.{directory_of}
 use Rattle.crash_core.specs.CardBlock.{IsReference}
 use Rattle.crash_core.specs.DeviceKeys.{directory_key}
-use Rattle.crash_core.specs.EntryChanges.{Clear, EntryChange, IsChange, Put, changed}
+use Rattle.crash_core.specs.declared.change.EntryChange.{EntryChange}
+use Rattle.crash_core.specs.declared.change.EntryChange.TheVariants.{Clear, Put}
+use Rattle.crash_core.specs.EntryChanges.{IsChange, changed}
 use Rattle.crash_core.specs.Mounting.{Held}
 use Rattle.crash_core.specs.Sights.{Shows}
 use Rattle.crash_core.specs.CoreState.{IsTrusted, PendingCommit, Phase}

@@ -11,7 +11,9 @@ use Rattle.history_seats.specs.Mounts.{Entry}
 use Rattle.history_seats.specs.Directory.{entries_committed}
 use Rattle.crash_core.specs.Entries.{name_of}
 use Rattle.crash_core.specs.EntryLists.{AreDistinct, AreSingle, entry_at}
-use Rattle.crash_core.specs.EntryChanges.{Clear, EntryChange, IsChange, Put, changed}
+use Rattle.crash_core.specs.declared.change.EntryChange.{EntryChange}
+use Rattle.crash_core.specs.declared.change.EntryChange.TheVariants.{Clear, Put}
+use Rattle.crash_core.specs.EntryChanges.{IsChange, changed}
 
 -- what the history keeps of an entry
 abbrev pub history_entry : DirEntry → Entry

@@ -13,9 +13,10 @@ use Rattle.history_seats.specs.Mounts.{Entry}
 use Rattle.history_seats.specs.Directory.{given_version}
 use Rattle.history_seats.specs.Views.{GateView}
 use Rattle.crash_core.specs.Entries.{name_of}
-use Rattle.crash_core.specs.EntryChanges.{EntryChange}
+use Rattle.crash_core.specs.declared.change.EntryChange.{EntryChange}
 use Rattle.crash_core.specs.EntryLists.{IsUnnamed, entry_at}
 use Rattle.crash_core.specs.DirectoryLaws.{AreEntries}
+use Rattle.crash_core.specs.declared.change.DoubtedChange.{DoubtedChange}
 use Rattle.core_laws.specs.Listed.{history_entry}
 use Rattle.core_laws.specs.TamperScenarios.{TamperScenario}
 use Rattle.core_laws.specs.Stores.{Store, entries_at, entry_named, replay_at}
@@ -23,7 +24,7 @@ use Rattle.core_laws.specs.Mapped.{IsMapped}
 use Rattle.core_laws.specs.EntryLaws.{HasOwnEntry}
 use Rattle.core_laws.specs.Answered.{AreAnswered}
 use Rattle.core_laws.specs.CallChanges.{IsEntryCommit, LacksName}
-use Rattle.core_laws.specs.Ties.{DoubtedChange, IsTied, MakesEntries}
+use Rattle.core_laws.specs.Ties.{IsTied, MakesEntries}
 use Rattle.core_laws.specs.MachineChanges.{IsCallOn}
 use Rattle.core_laws.specs.EntryFacts.{AreEntryFacts}
 

@@ -7,7 +7,6 @@ use Rattle.tee_types.specs.declared.call.Call.{Call}
 use Rattle.tee_types.specs.declared.reply.Reply.{Reply}
 use Rattle.store_model.specs.declared.event.Event.{Event}
 use Rattle.store_model.specs.declared.event.Event.TheVariants.{Call as CallEvent, Landed}
-use Rattle.store_model.specs.declared.event.Mark.{Mark}
 use Rattle.store_model.specs.declared.event.Mark.TheVariants.{Unchanged, Made, Doubtful}
 use Rattle.store_model.specs.Name.{name_cmp}
 use Rattle.store_model.specs.Object.{ObjectMap}
@@ -20,8 +19,10 @@ use Rattle.history_seats.specs.Mounts.{MountedEntry}
 use Rattle.history_seats.specs.Settling.{HasMark}
 use Rattle.history_seats.specs.Views.{GateView}
 use Rattle.history_seats.specs.Tags.{HasRightTag}
-use Rattle.history_seats.specs.Changes.{doubt_dropped, landing_of, with_record}
-use Rattle.crash_core.specs.EntryChanges.{EntryChange, changed}
+use Rattle.history_seats.specs.Changes.{doubt_dropped, landing_of, with_record, call_record}
+use Rattle.crash_core.specs.declared.change.EntryChange.{EntryChange}
+use Rattle.crash_core.specs.EntryChanges.{changed}
+use Rattle.crash_core.specs.declared.change.DoubtedChange.{DoubtedChange}
 use Rattle.core_laws.specs.Opened.{IsMountOf}
 use Rattle.core_laws.specs.TamperScenarios.{TamperScenario}
 use Rattle.core_laws.specs.Decodings.{IsReal}
@@ -29,7 +30,7 @@ use Rattle.core_laws.specs.Stores.{Store, replay_at}
 use Rattle.core_laws.specs.MapLaws.{AreMountedApart}
 use Rattle.core_laws.specs.Answered.{AreAnswered}
 use Rattle.core_laws.specs.CallChanges.{IsEntryCommit}
-use Rattle.core_laws.specs.Ties.{DoubtedChange, IsTied, MakesEntries}
+use Rattle.core_laws.specs.Ties.{IsTied, MakesEntries}
 
 -- the names of the objects rise
 abbrev pub AreRising : ObjectMap → Type 0
@@ -58,15 +59,11 @@ UnchangedEventsKeepTies =
     (store : Store) (view : GateView) (entries : List (Option DirEntry)) (counter : ℕ) (doubt : Option DoubtedChange) (r : HistoryRecord) → HasMark Unchanged r.event
     → HasRightTag store.mounted view.all r → KeepsDoubt doubt r.event → IsTied store view entries counter doubt → IsTied store (with_record r view) entries counter doubt
 
--- the record of a commit of a call, with that mark and tag
-abbrev pub record_of_commit : (session number : ℕ) → Call → Reply → Mark → Tag Version → HistoryRecord
-record_of_commit session number call reply mark tag = record { event = CallEvent session number call reply mark; tag = Some tag }
-
 -- A commit that is made: the entries change, and the counter is its number.
 abbrev pub MadeCommitsKeepTies : Type 0
 MadeCommitsKeepTies =
     (store : Store) (view : GateView) (entries : List (Option DirEntry)) (counter : ℕ) (doubt : Option DoubtedChange) (session number : ℕ) (call : Call) (reply : Reply) (commit : ℕ) (tag : Tag Version)
-    (change : EntryChange) → let r = record_of_commit session number call reply (Made commit) tag in
+    (change : EntryChange) → let r = call_record session number call reply (Made commit) (Some tag) in
     HasRightTag store.mounted view.all r → IsEntryCommit store entries counter session call change tag tag.committed → IsTied store view entries counter doubt
     → IsTied store (with_record r view) (changed entries change) commit None
 
@@ -75,7 +72,7 @@ MadeCommitsKeepTies =
 abbrev pub DoubtfulCommitsKeepTies : Type 0
 DoubtfulCommitsKeepTies =
     (store : Store) (view : GateView) (entries : List (Option DirEntry)) (counter : ℕ) (doubt : Option DoubtedChange) (session number : ℕ) (call : Call) (reply : Reply) (commit : ℕ) (tag : Tag Version)
-    (change : EntryChange) → let r = record_of_commit session number call reply (Doubtful commit) tag in
+    (change : EntryChange) → let r = call_record session number call reply (Doubtful commit) (Some tag) in
     HasRightTag store.mounted view.all r → view.decided ≤ length view.all → IsEntryCommit store entries counter session call change tag tag.doubted
     → ((scenario : TamperScenario) → AreAnswered store scenario view.all → is_commit_due (replay_at store scenario view.all) session call ≡ true
     → MakesEntries (replay_at store scenario view.all) session call entries change)

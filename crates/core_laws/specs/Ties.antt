@@ -12,7 +12,9 @@ use Rattle.dir_records.specs.declared.entry.DirEntry.{DirEntry}
 use Rattle.history_seats.specs.Settling.{IsOpenDoubt, as_landed}
 use Rattle.history_seats.specs.Views.{GateView}
 use Rattle.history_seats.specs.Directory.{given_version}
-use Rattle.crash_core.specs.EntryChanges.{EntryChange, IsChange, changed, index_of}
+use Rattle.crash_core.specs.declared.change.DoubtedChange.{DoubtedChange}
+use Rattle.crash_core.specs.declared.change.EntryChange.{EntryChange}
+use Rattle.crash_core.specs.EntryChanges.{IsChange, changed, index_of}
 use Rattle.core_laws.specs.Listed.{AreListed}
 use Rattle.core_laws.specs.TamperScenarios.{TamperScenario}
 use Rattle.core_laws.specs.Stores.{Store, entries_at, replay_at}
@@ -21,11 +23,6 @@ use Rattle.core_laws.specs.Listings.{HaveListedVersions}
 use Rattle.core_laws.specs.EntryLaws.{AreUnique}
 use Rattle.core_laws.specs.Answered.{AreAnswered}
 use Rattle.core_laws.specs.Matched.{AreMatched, AreReal}
-
--- A commit in doubt, as the gate has it: its number, and the change of the entries that its landing brings.
-pub record DoubtedChange : Type 0 where
-  pub number : ℕ
-  pub change : EntryChange
 
 -- The call changes the machine's map so that the entries change so.
 pub record MakesEntries (s : ReplayState) (session : ℕ) (call : Call) (entries : List (Option DirEntry)) (change : EntryChange) : Type 0 where

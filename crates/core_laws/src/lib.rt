@@ -14,6 +14,7 @@ mod store_name;
 mod tamper_laws;
 mod tie_laws;
 
+pub use crash_core::EntryChange;
 pub use part_laws::{
     commits_keep_listed, directory_runs_are_steps, file_runs_are_steps, finish_mounts,
     honest_finish_mounts, moves_are_a_run, openings_hold, own_events_keep, parts_are_a_core,

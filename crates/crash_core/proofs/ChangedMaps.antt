@@ -16,7 +16,9 @@ use Rattle.store_model.proofs.Maps.{moved_object-held, set_value-insert_entry}
 use Rattle.dir_records.specs.declared.entry.DirEntry.{DirEntry}
 use Rattle.crash_core.specs.Entries.{name_of}
 use Rattle.crash_core.specs.EntryLists.{AreDistinct, IsAlone, entry_at}
-use Rattle.crash_core.specs.EntryChanges.{Clear, EntryChange, Enters, IsChange, IsEntryOf, IsPlaceOf, Put, changed, index_of}
+use Rattle.crash_core.specs.declared.change.EntryChange.{EntryChange}
+use Rattle.crash_core.specs.declared.change.EntryChange.TheVariants.{Clear, Put}
+use Rattle.crash_core.specs.EntryChanges.{Enters, IsChange, IsEntryOf, IsPlaceOf, changed, index_of}
 use Rattle.crash_core.specs.Mounting.{Held, map_of}
 use Rattle.crash_core.specs.Holding.{entries_held, held_at}
 use Rattle.crash_core.proofs.EntryMaps.{IsApart, Lacks, insert_twice, pulled, put_over, remove_inserted, rest_all, rest_lacks}

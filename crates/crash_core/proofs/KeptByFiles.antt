@@ -9,7 +9,9 @@ use Rattle.store_model.specs.ReplayState.{ReplayState}
 use Rattle.dir_records.specs.declared.entry.DirEntry.{DirEntry}
 use Rattle.crash_core.specs.MountedObject.{root_of}
 use Rattle.crash_core.specs.EntryLists.{IsNamed}
-use Rattle.crash_core.specs.EntryChanges.{Clear, EntryChange, Put, changed}
+use Rattle.crash_core.specs.declared.change.EntryChange.{EntryChange}
+use Rattle.crash_core.specs.declared.change.EntryChange.TheVariants.{Clear, Put}
+use Rattle.crash_core.specs.EntryChanges.{changed}
 use Rattle.crash_core.specs.Sights.{Misses}
 use Rattle.crash_core.specs.CoreState.{Core, IsTrusted, PendingCommit, Phase, put, replay_state}
 use Rattle.crash_core.specs.FileSteps.{IsFileStep, MissesNamed, MissesPending, MissesSealed}

@@ -7,7 +7,9 @@ use Rattle.dir_records.specs.declared.entry.DirEntry.{DirEntry}
 use Rattle.store_model.specs.Object.{Object}
 use Rattle.crash_core.specs.Mounting.{Held}
 use Rattle.crash_core.specs.EntryLists.{entry_at}
-use Rattle.crash_core.specs.EntryChanges.{EntryChange, Put, Clear, changed}
+use Rattle.crash_core.specs.declared.change.EntryChange.{EntryChange}
+use Rattle.crash_core.specs.declared.change.EntryChange.TheVariants.{Put, Clear}
+use Rattle.crash_core.specs.EntryChanges.{changed}
 use Rattle.crash_core.specs.CoreState.{put}
 use Rattle.crash_core.specs.Holding.{entries_held, held_at}
 

@@ -12,7 +12,8 @@ use Rattle.crash_core.specs.MountedObject.{mounted_object, object_or_damaged, ro
 use Rattle.crash_core.specs.Directory.{directory_from, directory_of}
 use Rattle.crash_core.specs.DirectoryLaws.{AreEntries}
 use Rattle.crash_core.specs.EntryLists.{entry_at}
-use Rattle.crash_core.specs.EntryChanges.{Put, changed}
+use Rattle.crash_core.specs.declared.change.EntryChange.TheVariants.{Put}
+use Rattle.crash_core.specs.EntryChanges.{changed}
 use Rattle.crash_core.specs.Refusal.{Refusal}
 use Rattle.crash_core.specs.CardBlock.{directory_at, root_block, root_in}
 use Rattle.crash_core.specs.DeviceKeys.{directory_key, object_key}

@@ -13,7 +13,8 @@ use Rattle.dir_records.specs.declared.entry.DirEntry.{DirEntry}
 use Rattle.crash_core.specs.MountedObject.{root_of}
 use Rattle.crash_core.specs.DeviceKeys.{directory_key}
 use Rattle.crash_core.specs.EntryLists.{IsNamed}
-use Rattle.crash_core.specs.EntryChanges.{EntryChange, changed}
+use Rattle.crash_core.specs.declared.change.EntryChange.{EntryChange}
+use Rattle.crash_core.specs.EntryChanges.{changed}
 use Rattle.crash_core.specs.Sights.{Shows, Stands}
 use Rattle.crash_core.specs.CoreState.{IsTrusted, PendingCommit, Phase, put}
 use Rattle.crash_core.specs.FileSteps.{IsFileStep}

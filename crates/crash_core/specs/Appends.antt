@@ -10,7 +10,9 @@ use Rattle.store_model.specs.Record.{Record, file_of}
 use Rattle.store_model.specs.Doubt.{Doubt}
 use Rattle.store_model.specs.ReplayState.{replay_after}
 use Rattle.store_model.specs.Legal.{IsLegalEvent}
-use Rattle.crash_core.specs.EntryChanges.{EntryChange, Put, Clear, changed}
+use Rattle.crash_core.specs.declared.change.EntryChange.{EntryChange}
+use Rattle.crash_core.specs.declared.change.EntryChange.TheVariants.{Put, Clear}
+use Rattle.crash_core.specs.EntryChanges.{changed}
 use Rattle.crash_core.specs.CoreState.{Core, PendingCommit, Phase, put, replay_state}
 
 -- the file that a change puts is no longer taken

@@ -8,7 +8,7 @@ use Rattle.rpmb_card.specs.Card.{CardState}
 use Rattle.store_model.specs.Record.{Record}
 use Rattle.store_model.specs.ReplayState.{PhaseOpening, ReplayState, opening, replay}
 use Rattle.dir_records.specs.declared.entry.DirEntry.{DirEntry}
-use Rattle.crash_core.specs.EntryChanges.{EntryChange}
+use Rattle.crash_core.specs.declared.change.EntryChange.{EntryChange}
 
 -- A commit on its way: the session and its call, the entry that it changes, and, once it is sealed, the directory's new reference.
 pub record PendingCommit : Type 0 where

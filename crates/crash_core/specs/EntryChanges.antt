@@ -5,14 +5,12 @@ use Rattle.store_model.specs.Object.{Object, ObjectMap, object_at, size_of}
 use Rattle.store_model.specs.Makes.{MapChange, Change, Move, Remove}
 use Rattle.store_model.specs.Makes.{Put as PutObject}
 use Rattle.dir_records.specs.declared.entry.DirEntry.{DirEntry}
+use Rattle.crash_core.specs.declared.change.EntryChange.{EntryChange}
+use Rattle.crash_core.specs.declared.change.EntryChange.TheVariants.{Put, Clear}
 use Rattle.crash_core.specs.Entries.{name_of}
 use Rattle.crash_core.specs.EntryLists.{entry_at}
 
--- an entry is put at an index, or the one there is cleared
-pub data EntryChange : Type 0 where
-  Put : ℕ → DirEntry → EntryChange
-  Clear : ℕ → EntryChange
-
+-- the entries after the change
 abbrev pub changed : List (Option DirEntry) → EntryChange → List (Option DirEntry)
 changed entries (Put index e) = slice_set entries index (Some e)
 changed entries (Clear index) = slice_set entries index None

@@ -8,7 +8,8 @@ use Rattle.htree_file.specs.Opening.{Loaded, load_of}
 use Rattle.dir_records.specs.declared.entry.DirEntry.{DirEntry}
 use Rattle.crash_core.specs.MountedObject.{root_of}
 use Rattle.crash_core.specs.EntryLists.{IsNamed}
-use Rattle.crash_core.specs.EntryChanges.{EntryChange, Put, Clear}
+use Rattle.crash_core.specs.declared.change.EntryChange.{EntryChange}
+use Rattle.crash_core.specs.declared.change.EntryChange.TheVariants.{Put, Clear}
 use Rattle.crash_core.specs.Sights.{Misses}
 use Rattle.crash_core.specs.CoreState.{Core, IsTrusted, PendingCommit, Phase, put}
 

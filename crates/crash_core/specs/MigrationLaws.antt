@@ -14,7 +14,8 @@ use Rattle.crash_core.specs.Directory.{directory_of}
 use Rattle.crash_core.specs.CardBlock.{IsReference, directory_at, root_in}
 use Rattle.crash_core.specs.DeviceKeys.{directory_key, object_key}
 use Rattle.crash_core.specs.EntryLists.{IsUnnamed, entry_at}
-use Rattle.crash_core.specs.EntryChanges.{Put, changed}
+use Rattle.crash_core.specs.declared.change.EntryChange.TheVariants.{Put}
+use Rattle.crash_core.specs.EntryChanges.{changed}
 use Rattle.crash_core.specs.Pictures.{AreAllHonest, AreSound, IsPictureOf, Picture, SameCard, block_zero}
 use Rattle.crash_core.specs.Mounting.{mounted_directory}
 use Rattle.crash_core.specs.Migration.{DeviceCall, DeviceStates, IsDeviceCall, IsOfFile, KeepsFiles, KeepsMaps, MayBeSealed, Migrates}

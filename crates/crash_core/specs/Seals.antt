@@ -11,7 +11,9 @@ use Rattle.store_model.specs.Legal.{is_commit_due}
 use Rattle.crash_core.specs.Directory.{directory_of}
 use Rattle.crash_core.specs.CardBlock.{IsReference, root_block}
 use Rattle.crash_core.specs.DeviceKeys.{directory_key}
-use Rattle.crash_core.specs.EntryChanges.{EntryChange, Put, Clear, IsChange, changed}
+use Rattle.crash_core.specs.declared.change.EntryChange.{EntryChange}
+use Rattle.crash_core.specs.declared.change.EntryChange.TheVariants.{Put, Clear}
+use Rattle.crash_core.specs.EntryChanges.{IsChange, changed}
 use Rattle.crash_core.specs.Sights.{Shows}
 use Rattle.crash_core.specs.CoreState.{Core, IsTrusted, PendingCommit, Phase, replay_state}
 

@@ -7,12 +7,14 @@
 //! it has what keeps that map at every moment.
 #![tactic(auto)]
 
+mod change;
 mod core_laws;
 mod directory_laws;
 mod fault;
 mod laws;
 mod migration_laws;
 
+pub use change::{DoubtedChange, EntryChange};
 pub use core_laws::{every_picture_mounts, honest_pictures_mount, openings_are_starts};
 pub use directory_laws::{blocks_are_read_back, directories_are_opened, directories_have_entries};
 pub use fault::DirFault;

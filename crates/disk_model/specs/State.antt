@@ -1,10 +1,10 @@
 -- What is known of a file, and which images a crash may have left of it.
-use Rattle.std.specs.Prelude.{◌≡◌, ◌↔◌, ℕ, zero, suc, ◌≤◌, List, [], ◌∷◌, length, drop, map, Bool, false, IsTrue}
+use Rattle.std.specs.Prelude.{◌≡◌, ◌↔◌, ℕ, zero, suc, ◌≤◌, List, [], ◌∷◌, length, drop, map, Bool, true, false, IsTrue}
 use Rattle.disk_model.specs.declared.span.Span.{Span}
 use Rattle.disk_model.specs.declared.span.Change.{Change}
 use Rattle.disk_model.specs.Images.{Has, in_spans, MayLeave}
 use Rattle.disk_model.specs.Bytes.{AreBytes}
-use Rattle.disk_model.specs.Arms.{Arms, NamesNone}
+use Rattle.disk_model.specs.Arms.{Arms, NamesNone, no_arms}
 
 pub record FileState : Type 0 where
   -- the bytes that a crash leaves outside the spans that changed
@@ -31,6 +31,24 @@ pub record FileState : Type 0 where
   -- what is set to fail and to be struck, if it tells that
   pub tells_arms : Bool
   pub arms : Arms
+
+-- where there is no file: nothing, and that is settled
+abbrev pub no_file : FileState
+no_file = record {
+  settled = [];
+  reads = [];
+  trail = [];
+  pending_from = 0;
+  honest = true;
+  steady = true;
+  tells = true;
+  calm = true;
+  faults = 0;
+  starved = 0;
+  written = 0;
+  tells_arms = false;
+  arms = no_arms;
+}
 
 -- the spans of a list of changes
 abbrev pub spans_of : List Change → List Span

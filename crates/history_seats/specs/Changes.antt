@@ -1,9 +1,12 @@
 -- What the seats' calls do to what seats know.
 use Rattle.std.specs.Prelude.{◌≡◌, ℕ, [], ◌∷◌, ◌++◌, length, Option, Some, None, unwrap_or}
+use Rattle.tee_types.specs.declared.call.Call.{Call}
+use Rattle.tee_types.specs.declared.reply.Reply.{Reply}
 use Rattle.store_model.specs.declared.event.Event.{Event}
+use Rattle.store_model.specs.declared.event.Mark.{Mark}
 use Rattle.store_model.specs.declared.event.Event.TheVariants.{Call as CallEvent, Landed}
 use Rattle.atomic_table.specs.Seated.{TableId}
-use Rattle.store_model.specs.Record.{events_of}
+use Rattle.store_model.specs.Record.{Tag, events_of}
 use Rattle.store_model.specs.History.{count_of}
 use Rattle.history_seats.specs.Records.{Version, HistoryRecord}
 use Rattle.history_seats.specs.Mounts.{Mounted}
@@ -22,6 +25,10 @@ abbrev pub record_of : Event → Option SlotView → TagVersions → HistoryReco
 record_of event None versions = record { event = event; tag = None }
 record_of event (Some slot) versions =
     record { event = event; tag = Some (record { file = slot.file; generation = slot.generation; committed = versions.committed; doubted = versions.doubted }) }
+
+-- the record of a call: its event, and what the tag tells of the file that it was answered from
+abbrev pub call_record : (session number : ℕ) → Call → Reply → Mark → Option (Tag Version) → HistoryRecord
+call_record session number call reply mark tag = record { event = CallEvent session number call reply mark; tag = tag }
 
 -- the record of a landing
 abbrev pub landing_of : ℕ → HistoryRecord

@@ -2,28 +2,14 @@
 use Rattle.std.specs.Prelude.{◌≡◌, ◌⊎◌, ℕ, ◌+◌, ◌-◌, ◌^◌, List, [], ◌∷◌, ◌++◌, length, min, max, true, Contains, IsSomeAnd, ◌<◌, ◌≤◌}
 use Rattle.disk_model.specs.Faults.{next_count}
 use Rattle.disk_model.specs.Bytes.{after_write, after_resize}
-use Rattle.disk_model.specs.Arms.{Arms, no_arms, count_call, NamesNext, StopsNext}
-use Rattle.disk_model.specs.State.{FileState}
+use Rattle.disk_model.specs.Arms.{Arms, count_call, NamesNext, StopsNext}
+use Rattle.disk_model.specs.State.{FileState, no_file}
 use Rattle.disk_model.specs.Controls.{struck}
 use Rattle.mem_files.specs.Held.{change_of}
 
 -- an empty file without arms
 abbrev pub fresh : FileState
-fresh = record {
-  settled = [];
-  reads = [];
-  trail = [];
-  pending_from = 0;
-  honest = true;
-  steady = true;
-  tells = true;
-  calm = true;
-  faults = 0;
-  starved = 0;
-  written = 0;
-  tells_arms = true;
-  arms = no_arms;
-}
+fresh = record no_file { tells_arms = true }
 
 -- the state as a call begins: the call is counted, and its masks struck
 abbrev pub begun : FileState → FileState

@@ -20,10 +20,11 @@ use Rattle.crash_core.proofs.Lists.{set_at}
 use Rattle.crash_core.proofs.OldFormats.{none_is_old, none_old_store, old_by_entries}
 use Rattle.core_laws.proofs.Mending.{none_some, some_same}
 use Rattle.serial_calls.specs.CurrentFiles.{AreFilesCurrent, PutsCurrent}
-use Rattle.store_commit.specs.declared.gate.Doubted.{Doubted}
+use Rattle.crash_core.specs.declared.change.DoubtedChange.{DoubtedChange}
 use Rattle.store_commit.specs.Blocks.{picture_of}
-use Rattle.store_commit.specs.Changes.{change_of}
-use Rattle.crash_core.specs.EntryChanges.{Clear, EntryChange, Put, changed}
+use Rattle.crash_core.specs.declared.change.EntryChange.{EntryChange}
+use Rattle.crash_core.specs.declared.change.EntryChange.TheVariants.{Clear, Put}
+use Rattle.crash_core.specs.EntryChanges.{changed}
 use Rattle.store_commit.specs.Gates.{DoubtStands}
 use Rattle.store_commit.specs.Sides.{IsGatePicture, Names, Sides}
 use Rattle.store_commit.proofs.Ending.{doubted_pictures, settled_pictures}
@@ -83,7 +84,7 @@ module _ (g : Sides) (keys : Keys) (picture : Picture) (is_key : directory_key k
   names root counter named = ap (λ (b : List (List ℕ)). root_in (get_or b 0 [])) of.same.blocks ∙ named.block
 
   -- Where the files of a gate are of the current format, and the one that its commit in doubt puts, no picture of it has one of the old format.
-  pub gate_not_old : (doubt : Option Doubted) → AreFilesCurrent g.dir doubt → DoubtStands g doubt → old_file keys picture ≡ None
+  pub gate_not_old : (doubt : Option DoubtedChange) → AreFilesCurrent g.dir doubt → DoubtStands g doubt → old_file keys picture ≡ None
   gate_not_old None are stands =
       none_named keys picture g.dir.root g.dir.entries (names g.dir.root g.counter (stands.named of.card of.has)) are.root
       (settled_pictures g stands honest keys picture is_key of) are.entries
@@ -95,5 +96,5 @@ module _ (g : Sides) (keys : Keys) (picture : Picture) (is_key : directory_key k
       elim (doubted_pictures g stands.next stands.stands honest keys picture is_key of) [
         | inl old ↦ none_named keys picture named.0 g.dir.entries named.1 named.2 old are.entries
         | inr new ↦ none_named keys picture named.0 stands.next.entries named.1 named.2 new
-            (subst AreCurrent (sym stands.entries) (changed_current g.dir.entries (change_of d.change) are.entries are.put))
+            (subst AreCurrent (sym stands.entries) (changed_current g.dir.entries d.change are.entries are.put))
       ]

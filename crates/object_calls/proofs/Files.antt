@@ -3,12 +3,12 @@ use Rattle.std.proofs.Common.{◌≡◌, ◌≢◌, ◌∙◌, ◌-◌, ◌<◌,
 use Rattle.std.specs.Prelude.{slice_set}
 use Rattle.std.proofs.lemmas.Bool.{cases_eq}
 use Rattle.std.proofs.lemmas.List.{append-nil, drop_all, take_all}
-use Rattle.disk_model.specs.State.{FileState, Sound}
+use Rattle.disk_model.specs.State.{FileState, Sound, no_file}
 use Rattle.disk_model.proofs.Soundness.{agree_settled}
 use Rattle.tee_types.specs.Limits.{IsObjectFile, directory_file, file_count, last_file, old_directory_file}
 use Rattle.tee_types.proofs.FileNumbers.{directory_behind, directory_on_bench, object_not_directory, old_not_directory}
 use Rattle.crash_core.proofs.Lists.{put_each, put_else, put_here}
-use Rattle.object_calls.specs.OpeningFiles.{files_of, no_file, numbered_files, object_files}
+use Rattle.object_calls.specs.OpeningFiles.{files_of, numbered_files, object_files}
 
 pub no_file-sound : Sound no_file
 no_file-sound = record { bytes = agree_settled [] true; reads = λ place. omega arith; told = λ h. refl; calm = λ tells none. refl; steady = λ tells none. refl }

@@ -15,12 +15,11 @@ use Rattle.history_seats.specs.Views.{GateView, Sight, SlotView, new_gate}
 use Rattle.core_laws.specs.Opened.{first_view}
 use Rattle.core_laws.proofs.Contained.{contains_none}
 use Rattle.core_laws.specs.Stores.{Store}
-use Rattle.store_commit.specs.declared.gate.Doubted.{Doubted}
-use Rattle.store_commit.specs.Changes.{change_of}
+use Rattle.crash_core.specs.declared.change.DoubtedChange.{DoubtedChange}
 use Rattle.serial_calls.specs.Journals.{IsJournalOf}
 use Rattle.core_laws.specs.Ties.{IsTied}
 use Rattle.serial_calls.specs.CurrentFiles.{PutsCurrent}
-use Rattle.serial_calls.specs.GuardedGates.{IsClosingTied, GateInvariant, change_in_doubt}
+use Rattle.serial_calls.specs.GuardedGates.{IsClosingTied, GateInvariant}
 use Rattle.serial_calls.proofs.Knowing.{directory-entries}
 use Rattle.serial_calls.specs.GuardedSlots.{SlotInvariant}
 use Rattle.serial_calls.specs.FirstSlots.{first_slot}
@@ -75,16 +74,16 @@ module _ {F R : Type 0} (state : F → FileState) (sound : (f : F) → Sound (st
       let b = mounts_begin_gates store (bench_files state o) (entries_in o) o.gate.open_handles view mounted_store opening.unopened first in
       record {
         journal = b.journal;
-        tied = subst (λ (n : ℕ). IsTied store view (entries_in o) n (change_in_doubt o.gate.doubt)) (ap (λ (s : Store). s.counter) of.is)
-            (subst (λ (d : Option Doubted). IsTied store view (entries_in o) store.counter (change_in_doubt d)) (sym opening.idle) b.tied);
+        tied = subst (λ (n : ℕ). IsTied store view (entries_in o) n o.gate.doubt) (ap (λ (s : Store). s.counter) of.is)
+            (subst (λ (d : Option DoubtedChange). IsTied store view (entries_in o) store.counter d) (sym opening.idle) b.tied);
         handles = λ scenario answered. b.handles scenario;
-        closes = subst (λ (d : Option Doubted). IsClosingTied store view d None) (sym opening.idle) refl;
+        closes = subst (λ (d : Option DoubtedChange). IsClosingTied store view d None) (sym opening.idle) refl;
         directory_key = opening.keyed ∙ ap dir_tsk of.keyed.storage;
         card_key = of.keyed.card;
         current = record {
           root = opening.current;
           entries = opening.entries_current;
-          put = subst (λ (d : Option Doubted). IfSome d (λ x. PutsCurrent (change_of x.change))) (sym opening.idle) tt;
+          put = subst (λ (d : Option DoubtedChange). IfSome d (λ x. PutsCurrent x.change)) (sym opening.idle) tt;
         };
       }
 

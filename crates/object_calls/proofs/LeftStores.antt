@@ -33,21 +33,20 @@ use Rattle.core_laws.proofs.Answers.{own-whole}
 use Rattle.core_laws.specs.Undamaged.{AreUndamagedIn}
 use Rattle.core_laws.proofs.FirstClashes.{legal_or_clashed}
 use Rattle.core_laws.proofs.Narrowing.{all_answered, answered_each, legal_each}
-use Rattle.store_commit.specs.declared.gate.Doubted.{Doubted}
+use Rattle.crash_core.specs.declared.change.DoubtedChange.{DoubtedChange}
 use Rattle.store_commit.specs.Gates.{DoubtStands, GateValue, gate_sides}
 use Rattle.store_commit.specs.Holds.{AreHolds}
 use Rattle.store_commit.specs.Sides.{Sides}
-use Rattle.core_laws.specs.Ties.{DoubtedChange, IsReplayDoubt, IsTied}
+use Rattle.core_laws.specs.Ties.{IsReplayDoubt, IsTied}
 use Rattle.serial_calls.specs.FinishedPhases.{phase_under}
 use Rattle.serial_calls.specs.ClosedStores.{AreSlotsOf, IsClosedStore, IsMapBy, IsTiedStore, MountsBy, MountsGivenBy, SupposesTampered, tampered_in, no_slot, slots_of, store_files}
-use Rattle.serial_calls.specs.CoreTies.{doubted_change}
 use Rattle.serial_calls.proofs.ClosedStores.{closed_stores_mount, honest_stores_mount, slot_is, slot_none, store_directory, store_slot, tampered_files_are_supposed}
 use Rattle.serial_calls.proofs.GivenPictures.{tied_stores_mount}
 use Rattle.serial_calls.proofs.Ties.{ties_tell}
 use Rattle.serial_calls.specs.SlotCalls.{part}
 use Rattle.serial_calls.specs.SlotValues.{SlotValue}
 use Rattle.serial_calls.specs.declared.Closing.{Closing}
-use Rattle.serial_calls.specs.GuardedGates.{GateInvariant, GuardedGateValue, change_in_doubt}
+use Rattle.serial_calls.specs.GuardedGates.{GateInvariant, GuardedGateValue}
 use Rattle.object_calls.specs.OldStores.{HasNoOldFile}
 use Rattle.object_calls.specs.OpeningFiles.{files_of, numbered_files}
 use Rattle.object_calls.specs.FinishedPhase.{AreAllHonest, GivesBack, IsAnsweredOrEnds, IsCounterLeft, IsDoubtLeft, IsLegalOrClashed, IsMapWith, LeavesHonest, LeavesStore, PicturesMountAfter, PicturesMountGiven, end_replay}
@@ -85,18 +84,13 @@ contains_between [] r back = contains_first r r back refl
 contains_between (f ∷ front) r back = contains_later f r (front ++ r ∷ back) (contains_between front r back)
 
 -- the commit in doubt by its number
-mounts_numbered : (phase : Phase) (picture : Picture) (s : ReplayState) (doubt : Option Doubted) → MountsBy doubt phase picture s → MountsBy (option_map (λ (d : Doubted). d.number) doubt) phase picture s
+mounts_numbered : (phase : Phase) (picture : Picture) (s : ReplayState) (doubt : Option DoubtedChange) → MountsBy doubt phase picture s → MountsBy (option_map (λ (d : DoubtedChange). d.number) doubt) phase picture s
 mounts_numbered phase picture s None mounts = mounts
 mounts_numbered phase picture s (Some d) mounts = mounts
 
-map_numbered : (phase : Phase) (picture : Picture) (s : ReplayState) (doubt : Option Doubted) → IsMapBy doubt phase picture s → IsMapWith phase.keys picture s (option_map (λ (d : Doubted). d.number) doubt)
+map_numbered : (phase : Phase) (picture : Picture) (s : ReplayState) (doubt : Option DoubtedChange) → IsMapBy doubt phase picture s → IsMapWith phase.keys picture s (option_map (λ (d : DoubtedChange). d.number) doubt)
 map_numbered phase picture s None is = is
 map_numbered phase picture s (Some d) is = is
-
--- the commit in doubt, in the words of the gate's part
-doubt_words : (doubt : Option Doubted) → change_in_doubt doubt ≡ option_map doubted_change doubt
-doubt_words None = refl
-doubt_words (Some d) = refl
 
 module _ {F R : Type 0} (state : F → FileState) (port : R → PortState) (sound : (f : F) → Sound (state f)) (store : Store) (gate : GateValue F R) (view : GateView)
     (closing : Option Closing) (taken : List SlotValue) (spare : F) (others : List F) (guarded : GateInvariant store gate view closing) (stands : DoubtStands (gate_sides state port gate) gate.doubt)
@@ -189,9 +183,6 @@ module _ {F R : Type 0} (state : F → FileState) (port : R → PortState) (soun
   answered_or : IsAnsweredOrEnds store view files
   answered_or scenario is = all_answered store scenario view.all (guarded.journal.fair scenario) (own_legal scenario is)
 
-  tied_words : IsTied store view gate.dir.dir.entries gate.counter (option_map doubted_change gate.doubt)
-  tied_words = subst (λ (d : Option DoubtedChange). IsTied store view gate.dir.dir.entries gate.counter d) (doubt_words gate.doubt) guarded.tied
-
   tied_store : (scenario : TamperScenario) (card : CardState) → SupposesTampered scenario (store_files g slots) → HasCard (port gate.host.port) (rpmb_key store.keys.huk) card
       → IsTiedStore store scenario g gate.doubt gate.holds card view slots
   tied_store scenario card tampered has = record {
@@ -203,7 +194,7 @@ module _ {F R : Type 0} (state : F → FileState) (port : R → PortState) (soun
       held = held;
       told = record { own = card; has = subst (λ (k : List ℕ). HasCard (port gate.host.port) k card) (sym guarded.card_key) has; same = record { key = refl; counter = refl; blocks = refl } };
     };
-    tied = tied_words;
+    tied = guarded.tied;
     mounted = guarded.journal.mounted;
     slots_hold = slots_hold;
     tampered = tampered;
@@ -213,7 +204,7 @@ module _ {F R : Type 0} (state : F → FileState) (port : R → PortState) (soun
       → HasCard (port gate.host.port) (rpmb_key store.keys.huk) card → IsClosedStore store scenario g gate.doubt gate.holds card view slots
   closed scenario card tampered answered has = record {
     gate = (tied_store scenario card tampered has).gate;
-    tied = ties_tell store scenario view gate.dir.dir.entries gate.counter gate.doubt guarded.journal.mounted tied_words answered (guarded.journal.in_step scenario answered);
+    tied = ties_tell store scenario view gate.dir.dir.entries gate.counter gate.doubt guarded.journal.mounted guarded.tied answered (guarded.journal.in_step scenario answered);
     slots_hold = slots_hold;
     tampered = tampered;
   }
@@ -234,12 +225,12 @@ module _ {F R : Type 0} (state : F → FileState) (port : R → PortState) (soun
       (tied_store as_left card (supposed as_left refl) has)
       (subst (λ (f : ℕ → FileState). IsPictureOf f card picture) (sym same_files) left) trusted))
     where
-      given_numbered : (phase : Phase) (picture : Picture) (doubt : Option Doubted) → MountsGivenBy doubt store phase picture view.all
-          → MountsGivenBy (option_map (λ (d : Doubted). d.number) doubt) store phase picture view.all
+      given_numbered : (phase : Phase) (picture : Picture) (doubt : Option DoubtedChange) → MountsGivenBy doubt store phase picture view.all
+          → MountsGivenBy (option_map (λ (d : DoubtedChange). d.number) doubt) store phase picture view.all
       given_numbered phase picture None mounts = mounts
       given_numbered phase picture (Some d) mounts = mounts
 
-  doubt_by : (doubt : Option Doubted) → IsTied store view gate.dir.dir.entries gate.counter (change_in_doubt doubt) → IsDoubtLeft store view (option_map (λ d. d.number) doubt)
+  doubt_by : (doubt : Option DoubtedChange) → IsTied store view gate.dir.dir.entries gate.counter doubt → IsDoubtLeft store view (option_map (λ d. d.number) doubt)
   doubt_by None tied scenario answered = inr refl
   doubt_by (Some d) tied scenario answered =
       let s : IsReplayDoubt (replay_at store scenario view.all) gate.dir.dir.entries _ = tied.doubt.stands scenario answered in
@@ -249,7 +240,7 @@ module _ {F R : Type 0} (state : F → FileState) (port : R → PortState) (soun
   doubted_is doubt is = subst (IsDoubtLeft store view) (sym is) (doubt_by gate.doubt guarded.tied)
 
   -- THE COUNTER
-  counts_by : (doubt : Option Doubted) → DoubtStands g doubt → (card : CardState) → HasCard (port gate.host.port) gate.host.key card
+  counts_by : (doubt : Option DoubtedChange) → DoubtStands g doubt → (card : CardState) → HasCard (port gate.host.port) gate.host.key card
       → (card.counter ≡ gate.counter) ⊎ (option_map (λ d. d.number) doubt ≡ Some card.counter)
   counts_by None stand card has = inl (stand.named card has).counted
   counts_by (Some d) stand card has = elim (stand.stands.named card has) [

@@ -27,7 +27,8 @@ use Rattle.crash_core.specs.CoreState.{put}
 use Rattle.crash_core.specs.DeviceKeys.{directory_key, object_key}
 use Rattle.crash_core.specs.Directory.{directory_of}
 use Rattle.crash_core.specs.EntryLists.{AreCurrent, IsUnnamed, entry_at}
-use Rattle.crash_core.specs.EntryChanges.{Put, changed}
+use Rattle.crash_core.specs.declared.change.EntryChange.TheVariants.{Put}
+use Rattle.crash_core.specs.EntryChanges.{changed}
 use Rattle.crash_core.specs.Migration.{DeviceStates, IsOfFile, MayBeSealed, Migrates}
 use Rattle.crash_core.specs.MigrationLaws.{IsDirectoryCopied, IsEntryCopied, NoMountReads, OpensAlike, StagesDirectory, moved_entry}
 use Rattle.crash_core.specs.Pictures.{AreAllHonest, AreSound, IsPictureOf, Picture, block_zero}
@@ -35,7 +36,7 @@ use Rattle.crash_core.proofs.Lists.{put_each, put_else, put_here}
 use Rattle.crash_core.proofs.MountedImages.{directory_is}
 use Rattle.crash_core.proofs.Migrations.{copies_migrate, migrations_follow, rests_migrate, same_names, spare_unread, stages_migrate, unnamed_unread}
 use Rattle.crash_core.proofs.MigrationSeals.{directories_migrate, entries_migrate}
-use Rattle.store_commit.specs.declared.change.EntryChange.TheVariants.{Put as PutChange}
+use Rattle.crash_core.specs.declared.change.EntryChange.TheVariants.{Put as PutChange}
 use Rattle.store_commit.specs.declared.change.CommitEnd.{CommitEnd}
 use Rattle.store_commit.specs.declared.change.CommitEnd.TheVariants.{Made, Dropped, Doubtful, Spent}
 use Rattle.store_commit.specs.CardEnds.{IsSealedCard}

@@ -8,7 +8,8 @@ use Rattle.node_image.specs.References.{current_format}
 use Rattle.dir_records.specs.declared.entry.DirEntry.{DirEntry}
 use Rattle.dir_records.specs.Form.{IsFormat}
 use Rattle.crash_core.specs.CardBlock.{old_format}
-use Rattle.crash_core.specs.EntryChanges.{Put, changed}
+use Rattle.crash_core.specs.declared.change.EntryChange.TheVariants.{Put}
+use Rattle.crash_core.specs.EntryChanges.{changed}
 use Rattle.crash_core.specs.EntryLists.{AreCurrent, entry_at}
 use Rattle.crash_core.specs.MigrationLaws.{moved_entry}
 use Rattle.crash_core.proofs.Lists.{set_else, set_here}

@@ -28,8 +28,8 @@ use Rattle.crash_core.specs.MigrationLaws.{moved_entry}
 use Rattle.crash_core.proofs.Migrations.{exchanges_migrate, same_card}
 use Rattle.store_commit.specs.declared.change.CommitEnd.{CommitEnd}
 use Rattle.store_commit.specs.declared.change.CommitEnd.TheVariants.{Made, Dropped, Doubtful, Spent as SpentEnd}
-use Rattle.store_commit.specs.declared.change.EntryChange.{EntryChange}
-use Rattle.store_commit.specs.declared.change.EntryChange.TheVariants.{Put as PutChange}
+use Rattle.crash_core.specs.declared.change.EntryChange.{EntryChange}
+use Rattle.crash_core.specs.declared.change.EntryChange.TheVariants.{Put as PutChange}
 use Rattle.store_commit.specs.declared.fault.MountFault.{MountFault}
 use Rattle.store_commit.specs.declared.fault.MountFault.TheVariants.{CardBlock, CardResult, Directory, Failed, Frame, NoMemory, NoStore, OldFormat, Spent}
 use Rattle.store_commit.specs.Causes.{CauseStands, Counted, EndCause, EndNotDrawn, NoCard, NotDrawn, counts}

@@ -23,7 +23,7 @@ use Rattle.crash_core.specs.MigrationLaws.{moved_entry}
 use Rattle.crash_core.proofs.Lists.{put_else, put_here}
 use Rattle.crash_core.proofs.Migrations.{migrations_follow}
 use Rattle.store_commit.specs.declared.change.CommitEnd.{CommitEnd}
-use Rattle.store_commit.specs.declared.change.EntryChange.TheVariants.{Put as PutChange}
+use Rattle.crash_core.specs.declared.change.EntryChange.TheVariants.{Put as PutChange}
 use Rattle.store_commit.specs.Ends.{Throughout}
 use Rattle.store_commit.specs.Gates.{GateValue, gate_sides}
 use Rattle.store_commit.specs.Sides.{IsSettled}

@@ -19,7 +19,8 @@ use Rattle.tee_types.specs.declared.reply.Cause.TheVariants.{Fault}
 use Rattle.tee_types.specs.declared.reply.Device.TheVariants.{File}
 use Rattle.crash_core.specs.MountedObject.{root_of}
 use Rattle.crash_core.specs.DeviceKeys.{directory_key}
-use Rattle.crash_core.specs.EntryChanges.{Put, changed}
+use Rattle.crash_core.specs.declared.change.EntryChange.TheVariants.{Put}
+use Rattle.crash_core.specs.EntryChanges.{changed}
 use Rattle.crash_core.specs.EntryLists.{entry_at}
 use Rattle.crash_core.specs.Migration.{DeviceStates, Migrates}
 use Rattle.crash_core.specs.MigrationLaws.{moved_entry}

@@ -1,28 +1,9 @@
 -- The files of a bench, by their numbers: the first is that of an old directory, the last the directory's, and each of the others has an
 -- object or none.
-use Rattle.std.specs.Prelude.{ℕ, zero, suc, List, [], ◌∷◌, true, false}
+use Rattle.std.specs.Prelude.{ℕ, zero, suc, List, [], ◌∷◌}
 use Rattle.tee_types.specs.Limits.{directory_file}
 use Rattle.crash_core.specs.CoreState.{put}
-use Rattle.disk_model.specs.Arms.{no_arms}
-use Rattle.disk_model.specs.State.{FileState}
-
--- where there is no file: nothing, and that is settled
-abbrev pub no_file : FileState
-no_file = record {
-  settled = [];
-  reads = [];
-  trail = [];
-  pending_from = 0;
-  honest = true;
-  steady = true;
-  tells = true;
-  calm = true;
-  faults = 0;
-  starved = 0;
-  written = 0;
-  tells_arms = false;
-  arms = no_arms;
-}
+use Rattle.disk_model.specs.State.{FileState, no_file}
 
 -- what is known of the file at a place
 abbrev pub files_of : {F : Type 0} → (F → FileState) → List F → ℕ → FileState

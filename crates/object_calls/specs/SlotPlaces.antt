@@ -1,8 +1,7 @@
 -- The places that the files of objects come to as a phase ends.
 use Rattle.std.specs.Prelude.{◌≡◌, All, List, length, Option, None, Some}
-use Rattle.disk_model.specs.State.{FileState}
+use Rattle.disk_model.specs.State.{FileState, no_file}
 use Rattle.tee_types.specs.Limits.{last_file}
-use Rattle.object_calls.specs.OpeningFiles.{no_file}
 
 -- A place for each file of an object, and no file in any.
 pub record AreFree {F : Type 0} (places : List (Option F)) : Type 0 where

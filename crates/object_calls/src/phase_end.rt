@@ -129,6 +129,7 @@ pub fn close_slots<F: StoreFile + Drop, R: RpmbPort + Drop, E: Entropy + Drop, L
     retire_sessions(&mut journal, sessions);
     let places = retire_slots(&mut journal, slots, places);
     let files = taken_files(places, room);
+    gate.reveal_invariant();
     let doubt = gate.doubt();
     let (dir, card) = gate.close();
     let files = put_together(spare, files, dir);

@@ -1,7 +1,6 @@
 -- The file of a slot, and what it holds, by the parts that the slot has.
-use Rattle.std.specs.Prelude.{◌≡◌, [], false, Option, None, Some}
-use Rattle.disk_model.specs.Arms.{no_arms}
-use Rattle.disk_model.specs.State.{FileState}
+use Rattle.std.specs.Prelude.{◌≡◌, Option, None, Some}
+use Rattle.disk_model.specs.State.{FileState, no_file}
 use Rattle.htree_file.specs.Value.{Staged}
 use Rattle.object_slots.specs.SlotValues.{HeldObject, Holding, IsHolding, apart, free, live, made, staged}
 use Rattle.object_slots.specs.declared.content.Content.{Content}
@@ -34,24 +33,6 @@ IsContent (Free file) = Unit {0}
 IsContent (Made o) = (o.tree.stage ≡ None) × IsHolding (made (apart o))
 IsContent (Live o) = (o.tree.stage ≡ None) × IsHolding (live (apart o))
 IsContent (Kept o) = IsStageKept o.tree.stage × IsHolding (with_own_stage (apart o) o.tree.stage)
-
--- what is shown where nothing is there, which is never so between two calls
-abbrev pub no_file : FileState
-no_file = record {
-  settled = [];
-  reads = [];
-  trail = [];
-  pending_from = 0;
-  honest = false;
-  steady = false;
-  tells = false;
-  calm = false;
-  faults = 0;
-  starved = 0;
-  written = 0;
-  tells_arms = false;
-  arms = no_arms;
-}
 
 abbrev pub holding_of : {F : Type 0} → Option (Content F) → Holding
 holding_of None = free

@@ -6,6 +6,7 @@ use Rattle.tee_types.specs.Identifier.{bytes_cmp}
 use Rattle.tee_types.specs.declared.call.Call.{Call}
 use Rattle.store_model.specs.History.{count_of}
 use Rattle.store_model.specs.Record.{events_of}
+use Rattle.store_model.specs.declared.event.Mark.{Mark}
 use Rattle.app_totals.specs.declared.numbers.Forecast.{Forecast}
 use Rattle.app_totals.specs.declared.numbers.Totals.{Totals}
 use Rattle.app_quota.specs.Limits.{Limits, is_beyond, tells_beyond}
@@ -18,12 +19,12 @@ use Rattle.core_laws.specs.Stores.{Store, replay_at}
 use Rattle.core_laws.specs.TamperScenarios.{TamperScenario}
 use Rattle.core_laws.proofs.Answers.{answered-front}
 use Rattle.core_laws.proofs.Mending.{some_same}
-use Rattle.shared_store.specs.Attempts.{IsAnswered}
 use Rattle.shared_store.specs.CallerSessions.{CallerSession, IsCallerOf}
 use Rattle.shared_store.specs.ForeseenCalls.{IsForeseen}
 use Rattle.shared_store.specs.Kept.{AreOfSessions}
 use Rattle.shared_store.specs.QuotaCallers.{KeepsLimits}
-use Rattle.shared_store.proofs.QuotaCallers.{continued-kept, forecast-is, within-limits}
+use Rattle.shared_store.specs.SessionEvents.{Appends}
+use Rattle.shared_store.proofs.QuotaCallers.{forecast-is, waiting-limits, within-limits}
 use Rattle.shared_store.specs.declared.PlacedReply.{PlacedReply}
 use Rattle.quota_store.specs.Halves.{app_at}
 use Rattle.quota_store.specs.QuietForecasts.{AreQuiet}
@@ -31,7 +32,7 @@ use Rattle.quota_store.proofs.QuietForecasts.{of-first, quiet_forecasts_hold}
 
 -- a call that was forecast to stay within the limit, and before whose event no session of its application had another
 module _ {E : Type 0} (store : Store) (limit : Totals) (was mid now : CallerSession E) (call : Call) (answer : PlacedReply) (gate : GateView) (forecast : Forecast) (caller : IsCallerOf store was)
-    (f : IsForeseen store gate was mid call forecast) (within : tells_beyond limit forecast ≡ false) (a : IsAnswered store mid now call answer) (all more : List HistoryRecord)
+    (f : IsForeseen store gate was mid call forecast) (within : tells_beyond limit forecast ≡ false) (mark : Mark) (a : Appends store mid now call answer mark) (all more : List HistoryRecord)
     (behind : a.extends.new.knows.seen ++ more ≡ all) (sessions : AreOfSessions (length store.mounted.applications) (events_of all))
     (others : (k : ℕ) → k < length store.mounted.applications → is_eq (bytes_cmp (app_at store mid.number) (app_at store k)) ≡ true → (k ≡ mid.number → ⊥)
     → count_of k (events_of all) ≡ count_of k (events_of gate.all)) where
@@ -46,7 +47,7 @@ module _ {E : Type 0} (store : Store) (limit : Totals) (was mid now : CallerSess
 
   -- it is of the same application
   apps-same : mid.state.application ≡ was.state.application
-  apps-same = f.waits.whole.session.application ∙ ap (app_at store) f.waits.number ∙ sym caller.session.application
+  apps-same = f.waits.caller.session.application ∙ ap (app_at store) f.waits.number ∙ sym caller.session.application
 
   saw : a.extends.old ≡ f.sees.seat
   saw = some_same a.extends.old f.sees.seat (sym a.extends.was ∙ f.sees.is)
@@ -98,16 +99,16 @@ module _ {E : Type 0} (store : Store) (limit : Totals) (was mid now : CallerSess
       → is_beyond limits (replay_at store scenario (gate.all ++ between)).state mid.number call ≡ false
   stays limits is scenario answered =
       let before : AreAnswered store scenario gate.all = answered-front store scenario gate.all between answered in
-      quiet_forecasts_hold store scenario limits gate.all between (last ∷ []) gate.decided mid.number call (f.rising scenario before) f.waits.whole.session.known quiet
+      quiet_forecasts_hold store scenario limits gate.all between (last ∷ []) gate.decided mid.number call (f.rising scenario before) f.waits.caller.session.known quiet
       ∙ forecast-is store limit was mid caller f.waits.number call forecast gate.all f.told limits is scenario before
       ∙ within
 
   limited : KeepsLimits store limit mid now
   limited =
-      within-limits store limit mid now a.number call answer.reply a.mark answer.place a.extends
+      within-limits store limit mid now call answer mark a
       (λ limits is scenario answered.
       subst (λ (l : List HistoryRecord). is_beyond limits (replay_at store scenario (l ++ between)).state mid.number call ≡ false) (sym seen-is)
       (stays limits (sym (ap limits apps-same) ∙ is) scenario (subst (λ (l : List HistoryRecord). AreAnswered store scenario (l ++ between)) seen-is answered)))
 
   pub served-within : KeepsLimits store limit was now
-  served-within limits is kept = limited limits (ap limits apps-same ∙ is) (continued-kept store was mid f.waits.number limits kept f.waits.goes_on.continues)
+  served-within limits is kept = limited limits (ap limits apps-same ∙ is) (waiting-limits store limit was mid f.waits limits is kept)

@@ -17,12 +17,13 @@ use Rattle.history_seats.proofs.Numbering.{count-begins}
 use Rattle.core_laws.specs.Answered.{AreAnswered}
 use Rattle.core_laws.specs.Stores.{Store, replay_at}
 use Rattle.core_laws.proofs.Mending.{some_same}
-use Rattle.shared_store.specs.Attempts.{IsAnswered, IsWaiting}
+use Rattle.shared_store.specs.Attempts.{IsAnswered}
+use Rattle.shared_store.specs.SessionEvents.{IsWaiting}
 use Rattle.shared_store.specs.ForeseenCalls.{IsAnsweredEarly}
 use Rattle.shared_store.proofs.Waiting.{answers-then}
 use Rattle.shared_store.specs.CallerSessions.{CallerSession, IsCallerOf}
 use Rattle.shared_store.specs.QuotaCallers.{IsRefusedRightly, KeepsLimits}
-use Rattle.shared_store.proofs.QuotaCallers.{continued-kept, early-limits, early_is, forecast-is, other-limits}
+use Rattle.shared_store.proofs.QuotaCallers.{early-limits, early_is, forecast-is, other-limits, waiting-limits}
 use Rattle.shared_store.specs.declared.PlacedReply.{PlacedReply}
 use Rattle.shared_store.specs.declared.QuotaOutcome.{QuotaOutcome}
 use Rattle.shared_store.specs.declared.QuotaOutcome.TheVariants.{Answered, Refused}
@@ -33,28 +34,24 @@ use Rattle.quota_store.specs.Looks.{HasPut, HaveBeenShown}
 use Rattle.quota_store.proofs.KeptHalves.{Places, halves_are_shown, halves_put, set_else, set_there, shown_some, within_some}
 use Rattle.quota_store.proofs.LimitedCalls.{served-within}
 
--- a call that waits has no event more
-pub waiting-limits : {E : Type 0} (store : Store) (limit : Totals) (was now : CallerSession E) → IsWaiting store was now → KeepsLimits store limit was now
-waiting-limits store limit was now w limits is kept = continued-kept store was now w.number limits kept w.goes_on.continues
-
 -- ONE EVENT MORE
 module _ {E : Type 0} (store : Store) (limit : Totals) (was now : CallerSession E) (call : Call) (answer : PlacedReply) where
   -- of a call that may not grow an object
   pub answered-other : IsAnswered store was now call answer → may_grow call ≡ false → KeepsLimits store limit was now
-  answered-other a = other-limits store limit was now a.number call answer.reply a.mark answer.place a.extends
+  answered-other a = other-limits store limit was now call answer a.mark a.appends
 
   -- of a call that was answered before what it would leave was asked
   pub answered-early : (gate : GateView) → IsAnsweredEarly store gate was now call answer → KeepsLimits store limit was now
   answered-early gate e =
       let a = e.answered in
-      early-limits store limit was now a.number call answer.reply a.mark answer.place a.extends (early_is answer.reply e.early) e.unchanged
+      early-limits store limit was now call answer a.mark a.appends (early_is answer.reply e.early) e.unchanged
 
 -- the session is the store's still, with its number
 pub ends-caller : {E X : Type 0} (store : Store) (limit : Totals) (was now : CallerSession E) (call : Call) (outcome : Result QuotaOutcome X) → EndsLocked store limit was now call outcome
     → IsCallerOf store now × (now.number ≡ was.number)
-ends-caller store limit was now call (Ok (Answered answer)) a = (a.whole, a.number)
-ends-caller store limit was now call (Ok (Refused place)) r = (r.waits.whole, r.waits.number)
-ends-caller store limit was now call (Err none) w = (w.whole, w.number)
+ends-caller store limit was now call (Ok (Answered answer)) a = (a.appends.caller, a.appends.extends.number)
+ends-caller store limit was now call (Ok (Refused place)) r = (r.waits.caller, r.waits.number)
+ends-caller store limit was now call (Err none) w = (w.caller, w.number)
 
 -- MEMORY RAN OUT
 module _ {E X : Type 0} (store : Store) (limit : Totals) (was now : CallerSession E) (call : Call) where
@@ -100,14 +97,15 @@ module _ {E : Type 0} (store : Store) (limit : Totals) (was now : CallerSession 
           let number : s.mid.number ≡ was.number = s.foreseen.waits.number in
           let here = others k known (λ same. other (same ∙ sym number)) (subst (λ (n : ℕ). is_eq (bytes_cmp (app_at store n) (app_at store k)) ≡ true) number own) in
           let there : kept_at mid k ≡ Some (half_shown s.gate here.0) = ap (λ (l : Places). kept_at l k) s.shown ∙ shown_some s.gate old k here.0 here.1 in
-          let fits : PassFits shown.gate (half_shown s.gate here.0).knows = shown.others_fit k (half_shown s.gate here.0) (λ same. other (same ∙ s.answered.number)) there in
+          let fits : PassFits shown.gate (half_shown s.gate here.0).knows = shown.others_fit k (half_shown s.gate here.0) (λ same. other (same ∙ s.answered.appends.extends.number)) there in
           count-begins k s.gate.all shown.gate.all (subst (λ (n : ℕ). IsUpToDate (is_of_session n) s.gate.all shown.gate.all) (halves k here.0 here.1).own fits.sees.begins)
 
       served-limits : KeepsLimits store limit was now
       served-limits =
           let begins = shown.fit.sees.begins in
-          let same : s.answered.extends.new ≡ half = some_same s.answered.extends.new half (sym s.answered.extends.is ∙ pass) in
-          served-within store limit was s.mid now call answer s.gate s.forecast caller s.foreseen s.within s.answered shown.gate.all begins.rest
+          let seen = s.answered.appends.extends in
+          let same : seen.new ≡ half = some_same seen.new half (sym seen.is ∙ pass) in
+          served-within store limit was s.mid now call answer s.gate s.forecast caller s.foreseen s.within s.answered.mark s.answered.appends shown.gate.all begins.rest
           (ap (λ (p : Sight PassView). p.knows.seen ++ begins.rest) same ∙ begins.is) shown.sessions others_quiet
 
     pub came-limits : {X : Type 0} (outcome : Result QuotaOutcome X) → CameTo store limit was now call old mid outcome → KeepsLimits store limit was now

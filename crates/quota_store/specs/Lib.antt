@@ -16,5 +16,6 @@ pub use Rattle.shared_store.specs.GuardedGates
 pub use Rattle.shared_store.specs.Rising
 pub use Rattle.shared_store.specs.Attempts
 pub use Rattle.shared_store.specs.SharedCounts
+pub use Rattle.shared_store.specs.SessionEvents
 pub use Rattle.shared_store.specs.SlotValues
 pub use Rattle.shared_store.specs.QuotaCallers

@@ -5,7 +5,8 @@ use Rattle.app_totals.specs.declared.numbers.Forecast.{Forecast}
 use Rattle.app_totals.specs.declared.numbers.Totals.{Totals}
 use Rattle.app_quota.specs.Limits.{tells_beyond}
 use Rattle.history_seats.specs.Views.{GateView, PassView, Sight}
-use Rattle.shared_store.specs.Attempts.{IsAnswered, IsWaiting}
+use Rattle.shared_store.specs.Attempts.{IsAnswered}
+use Rattle.shared_store.specs.SessionEvents.{IsWaiting}
 use Rattle.shared_store.specs.CallerSessions.{CallerSession}
 use Rattle.shared_store.specs.ForeseenCalls.{IsAnsweredEarly, IsForeseen}
 use Rattle.shared_store.specs.QuotaCallers.{IsRefusedRightly}

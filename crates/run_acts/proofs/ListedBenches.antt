@@ -2,7 +2,7 @@
 use Rattle.std.proofs.Common.{◌≡◌, ◌≢◌, ◌≤◌, ◌∙◌, ℕ, List, Option, None, length, refl, sym, ap, subst, inl, inr, IsTrue}
 use Rattle.std.proofs.lemmas.List.{length-map}
 use Rattle.std.specs.Map.{keys_of}
-use Rattle.disk_model.specs.State.{FileState, Sound}
+use Rattle.disk_model.specs.State.{FileState, Sound, no_file}
 use Rattle.disk_model.specs.Calls.{GoesOn, Rests}
 use Rattle.htree_file.specs.Standing.{Told}
 use Rattle.htree_file.specs.Answers.{FileFailed, FilePassed}
@@ -24,7 +24,6 @@ use Rattle.dir_records.specs.declared.entry.DirEntry.{DirEntry}
 use Rattle.dir_file.specs.EntryForms.{AreEntriesOf}
 use Rattle.object_calls.specs.Next.{ShowFailed}
 use Rattle.object_calls.specs.Opening.{OpeningValue, bench_files, entries_in}
-use Rattle.object_calls.specs.OpeningFiles.{no_file}
 use Rattle.object_calls.specs.Syncing.{IsOnlySynced}
 use Rattle.object_calls.proofs.Syncs.{only_none, only_rest, only_then}
 use Rattle.object_calls.proofs.EntriesOf.{distinct_names, form_at}

@@ -10,7 +10,8 @@ use Rattle.history_seats.specs.Views.{PassView, Sight}
 use Rattle.core_laws.specs.Stores.{Store}
 use Rattle.quota_store.specs.CallerSessions.{CallerSession, IsCallerOf}
 use Rattle.quota_store.specs.declared.PlacedReply.{PlacedReply}
-use Rattle.quota_store.specs.Attempts.{IsAnswered, IsWaiting}
+use Rattle.quota_store.specs.Attempts.{IsAnswered}
+use Rattle.quota_store.specs.SessionEvents.{IsWaiting}
 use Rattle.script_text.specs.declared.script.Step.{Step}
 use Rattle.run_acts.specs.ServedSteps.{calls_in}
 use Rattle.tee_types.specs.declared.reply.Device.TheVariants.{Entropy}
@@ -53,16 +54,16 @@ unmade-own store s caller none =
 module _ {E : Type 0} (store : Store) (was now : CallerSession E) where
   pub calls-answered : (call : Call) (answer : PlacedReply) → IsAnswered store was now call answer → own_calls now ≡ own_calls was ++ call ∷ []
   calls-answered call answer a =
-      let e = a.extends in
-      ap (λ (n : ℕ). calls_of n (events_of (seen_by now.pass))) a.number
+      let e = a.appends.extends in
+      ap (λ (n : ℕ). calls_of n (events_of (seen_by now.pass))) e.number
       ∙ ap (λ (pass : Option (Sight PassView)). calls_of was.number (events_of (seen_by pass))) e.is
       ∙ ap (λ (l : List HistoryRecord). calls_of was.number (events_of l)) e.extends
       ∙ calls_of-more was.number e.old.knows.seen e.between e.last (calls_of-none was.number (events_of e.between) e.none_between)
       ∙ ap (λ (l : List Call). calls_of was.number (events_of e.old.knows.seen) ++ l) own
       ∙ ap (λ (pass : Option (Sight PassView)). calls_of was.number (events_of (seen_by pass)) ++ call ∷ []) (sym e.was)
     where
-      own : calls_of was.number (a.extends.last.event ∷ []) ≡ call ∷ []
-      own = ap (λ (event : Event). calls_of was.number (event ∷ [])) a.extends.event_is ∙ rw (eq-eqb was.number was.number refl) refl
+      own : calls_of was.number (a.appends.extends.last.event ∷ []) ≡ call ∷ []
+      own = ap (λ (event : Event). calls_of was.number (event ∷ [])) a.appends.extends.event_is ∙ rw (eq-eqb was.number was.number refl) refl
 
   pub calls-waiting : IsWaiting store was now → own_calls now ≡ own_calls was
   calls-waiting w =
@@ -84,9 +85,9 @@ module _ {E : Type 0} (is_reliable : E → Type 0) (draws : E → ℕ) (store : 
   pub made_one : (was now : CallerSession E) (call : Call) (answer : PlacedReply) → IsAnswered store was now call answer → Grows (draws was.entropy) (draws now.entropy)
       → CarriesDraws (draws was.entropy) (draws now.entropy) answer.reply → (is_reliable was.entropy → is_reliable now.entropy × (draws now.entropy ≡ draws was.entropy)) → Made was now (call ∷ [])
   made_one was now call answer a grows carries steady = record {
-    caller = a.whole;
-    number = a.number;
-    made = omega (arith, a.made);
+    caller = a.appends.caller;
+    number = a.appends.extends.number;
+    made = omega (arith, a.appends.made);
     calls_are = calls-answered store was now call answer a;
     drawn = record {
       rises = λ first rise.
@@ -97,13 +98,13 @@ module _ {E : Type 0} (is_reliable : E → Type 0) (draws : E → ℕ) (store : 
     };
   }
     where
-      own_told : draws_of was.number (a.extends.last.event ∷ []) ≡ told_of Entropy answer.reply
-      own_told = ap (λ (event : Event). draws_of was.number (event ∷ [])) a.extends.event_is ∙ rw (eq-eqb was.number was.number refl) (append-nil (told_of Entropy answer.reply))
+      own_told : draws_of was.number (a.appends.extends.last.event ∷ []) ≡ told_of Entropy answer.reply
+      own_told = ap (λ (event : Event). draws_of was.number (event ∷ [])) a.appends.extends.event_is ∙ rw (eq-eqb was.number was.number refl) (append-nil (told_of Entropy answer.reply))
 
       draws_are : own_draws now ≡ own_draws was ++ told_of Entropy answer.reply
       draws_are =
-          let e = a.extends in
-          ap (λ (n : ℕ). draws_of n (events_of (seen_by now.pass))) a.number
+          let e = a.appends.extends in
+          ap (λ (n : ℕ). draws_of n (events_of (seen_by now.pass))) e.number
           ∙ ap (λ (pass : Option (Sight PassView)). draws_of was.number (events_of (seen_by pass))) e.is
           ∙ ap (λ (l : List HistoryRecord). draws_of was.number (events_of l)) e.extends
           ∙ draws_of-more was.number e.old.knows.seen e.between e.last e.none_between
@@ -112,7 +113,7 @@ module _ {E : Type 0} (is_reliable : E → Type 0) (draws : E → ℕ) (store : 
 
   pub stopped_one : (was now : CallerSession E) (call : Call) → IsWaiting store was now → HasStopped store was now (call ∷ [])
   stopped_one was now call w = record {
-    caller = w.whole;
+    caller = w.caller;
     number = w.number;
     front = [];
     rest = call ∷ [];
@@ -126,7 +127,7 @@ module _ {E : Type 0} (is_reliable : E → Type 0) (draws : E → ℕ) (store : 
   pub refused_one : (was now : CallerSession E) → IsWaiting store was now → Grows (draws was.entropy) (draws now.entropy)
       → (is_reliable was.entropy → is_reliable now.entropy × (draws now.entropy ≡ draws was.entropy)) → Made was now []
   refused_one was now w grows steady = record {
-    caller = w.whole;
+    caller = w.caller;
     number = w.number;
     made = omega (arith, w.made);
     calls_are = calls-waiting store was now w ∙ sym (append-nil (own_calls was));

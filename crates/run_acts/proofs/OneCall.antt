@@ -153,7 +153,7 @@ module _ {F R E : Type 0} (of_file : F → FileState) (of_port : R → PortState
   pub seated_behind : (place : Option ℕ) → Answered place → AreSeated store now
   seated_behind (Some place) answered =
       let goes_on = answered.at.goes_on in
-      seated_with was app within after store seated goes_on.whole (goes_on.extends.number ∙ number_is)
+      seated_with was app within after store seated goes_on.appends.caller (goes_on.appends.extends.number ∙ number_is)
   seated_behind None answered =
       let goes_on = answered.at.1 in
-      seated_with was app within after store seated goes_on.whole (goes_on.number ∙ number_is)
+      seated_with was app within after store seated goes_on.waits.caller (goes_on.waits.number ∙ number_is)

@@ -11,7 +11,8 @@ use Rattle.history_seats.specs.Views.{PassView, Sight}
 use Rattle.core_laws.specs.Stores.{Store}
 use Rattle.script_text.specs.declared.script.Step.{Step}
 use Rattle.script_text.specs.declared.script.Step.TheVariants.{Call as CallStep}
-use Rattle.quota_store.specs.Attempts.{IsAnswered, IsWaiting}
+use Rattle.quota_store.specs.Attempts.{IsAnswered}
+use Rattle.quota_store.specs.SessionEvents.{IsWaiting}
 use Rattle.quota_store.specs.CallerSessions.{CallerSession, IsCallerOf}
 use Rattle.quota_store.specs.declared.PlacedReply.{PlacedReply}
 use Rattle.store_model.specs.History.{calls_of}
@@ -62,7 +63,7 @@ GoesOnFrom was now = (rest : List HistoryRecord) × (seen_by was.pass ++ rest �
 module _ {E : Type 0} (store : Store) (was now : CallerSession E) where
   pub saw-answered : (call : Call) (answer : PlacedReply) → IsAnswered store was now call answer → GoesOnFrom was now
   saw-answered call answer a =
-      let e = a.extends in (
+      let e = a.appends.extends in (
         e.between ++ e.last ∷ [],
         ap (λ (pass : Option (Sight PassView)). seen_by pass ++ (e.between ++ e.last ∷ [])) e.was
             ∙ sym (append_assoc e.old.knows.seen e.between (e.last ∷ []))
@@ -157,8 +158,8 @@ module _ {E : Type 0} (store : Store) (limits : Limits) where
       keeps-answered c =
           let a = c.ends.1 in
           record {
-            caller = a.whole;
-            number = a.number ∙ k.number;
+            caller = a.appends.caller;
+            number = a.appends.extends.number ∙ k.number;
             calls_are = calls-answered store mid now call c.ends.0 a
                 ∙ ap (λ (l : List Call). l ++ call ∷ []) k.calls_are
                 ∙ append_assoc (own_calls was) (calls_in was.number (admitted refused steps)) (call ∷ [])
@@ -210,7 +211,7 @@ module _ {E : Type 0} (store : Store) (limits : Limits) where
 
         pub keeps-refused : KeepsLimitsOver store limits next was now more
         keeps-refused = record {
-          caller = c.ends.0.whole;
+          caller = c.ends.0.caller;
           number = number_is;
           calls_are = still-own
               ∙ ap (λ (l : List Step). own_calls was ++ calls_in was.number l) (sym (admitted-refused more steps step (is_refused-last refused noted (length steps) refl)));

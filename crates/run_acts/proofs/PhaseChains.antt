@@ -2,7 +2,7 @@
 use Rattle.std.proofs.Common.{◌≡◌, ◌∙◌, ◌<◌, ◌≤◌, ℕ, zero, suc, List, [], ◌∷◌, length, IsTrue, inl, inr, refl, sym, ap, subst, arith}
 use Rattle.std.proofs.lemmas.Bool.{cases_lt}
 use Rattle.disk_model.specs.Arms.{Taint}
-use Rattle.disk_model.specs.State.{FileState}
+use Rattle.disk_model.specs.State.{FileState, no_file}
 use Rattle.tee_types.specs.Limits.{file_count}
 use Rattle.object_calls.specs.OpeningArms.{TaintsOnBench}
 use Rattle.hmac_keys.specs.declared.Keys.{Keys}
@@ -22,7 +22,7 @@ use Rattle.script_text.specs.declared.script.Mode.{Mode}
 use Rattle.script_text.specs.declared.script.Step.{Step}
 use Rattle.object_calls.specs.FinishedPhase.{AreAllHonest}
 use Rattle.object_calls.specs.Opening.{bench_files}
-use Rattle.object_calls.specs.OpeningFiles.{files_of, no_file}
+use Rattle.object_calls.specs.OpeningFiles.{files_of}
 use Rattle.run_acts.specs.Benches.{BenchState, opening_state}
 use Rattle.run_acts.specs.Between.{AreReadable}
 use Rattle.run_acts.specs.Left.{AreLeft, HoldsLeft, replay_left}

@@ -48,17 +48,12 @@ module _ {F R E : Type 0} (of_file : F → FileState) (of_port : R → PortState
   module _ (limits : Limits) (limit : Totals) (limited : limits was.state.application ≡ limit) (keeps : KeepsLimits store limit was now) where
     pub within-answered : (answer : PlacedReply) → AnswersWithin of_file of_port draws {X = Unit {0}} store old new was now call (Ok answer) → CallsWithin store limits was now call None
     within-answered answer w =
-        let goes = w.at.goes_on in
-        record {
-          ends = (answer, record { mark = goes.mark; extends = goes.extends; whole = goes.whole; number = goes.extends.number; made = goes.made });
-          kept = keeps limits limited;
-        }
+        let goes = w.at.goes_on in record { ends = (answer, record { mark = goes.mark; appends = goes.appends }); kept = keeps limits limited }
 
     pub within-refused : (place : ℕ) → AnswersWithin of_file of_port draws {X = Unit {0}} store old new was now call (Err tt) → IsRefusedRightly store limit was now call place
         → CallsWithin store limits was now call (Some place)
     within-refused place w refused =
-        let goes = w.at in
-        record { ends = (record { whole = goes.whole; number = goes.number; made = goes.made; goes_on = goes.goes_on }, refused limits limited); kept = keeps limits limited }
+        record { ends = (w.at.waits, refused limits limited); kept = keeps limits limited }
 
 -- ONE CALL OF A SESSION UNDER THE LIMIT OF ITS APPLICATION
 module _ {F R E X : Type 0} (of_file : F → FileState) (of_port : R → PortState) (draws : E → ℕ) (store : Store) (old new : ServiceValue F R) (was : List (CallerSession E)) (app : ℕ) (found after : CallerSession E)

@@ -12,7 +12,8 @@ use Rattle.quota_store.specs.Draws.{CarriesOutcome}
 use Rattle.quota_store.specs.LockedCalls.{EndsLocked, IsRefusedBy}
 use Rattle.script_text.specs.declared.script.Step.{Step}
 use Rattle.script_text.specs.declared.script.Step.TheVariants.{Call as CallStep}
-use Rattle.quota_store.specs.Attempts.{IsAnswered, IsWaiting}
+use Rattle.quota_store.specs.Attempts.{IsAnswered}
+use Rattle.quota_store.specs.SessionEvents.{IsWaiting}
 use Rattle.quota_store.specs.CallerSessions.{CallerSession, IsCallerOf}
 use Rattle.quota_store.specs.Devices.{Grows}
 use Rattle.quota_store.specs.QuotaCallers.{KeepsLimits}
@@ -107,9 +108,9 @@ module _ {E : Type 0} (is_reliable : E → Type 0) (draws : E → ℕ) (store : 
 -- what it ended with
 module _ {E X : Type 0} (store : Store) (limit : Totals) (was now : CallerSession E) (call : Call) where
   pub ends-caller : (r : Result QuotaOutcome X) → EndsLocked store limit was now call r → IsCallerOf store now × (now.number ≡ was.number)
-  ends-caller (Ok (Answered answer)) e = (e.whole, e.number)
-  ends-caller (Ok (Refused place)) e = (e.waits.whole, e.waits.number)
-  ends-caller (Err none) e = (e.whole, e.number)
+  ends-caller (Ok (Answered answer)) e = (e.appends.caller, e.appends.extends.number)
+  ends-caller (Ok (Refused place)) e = (e.waits.caller, e.waits.number)
+  ends-caller (Err none) e = (e.caller, e.number)
 
   module _ (r : Result QuotaOutcome X) (ends : EndsLocked store limit was now call r) where
     pub ends-answered : (answer : PlacedReply) → r ≡ Ok (Answered answer) → IsAnswered store was now call answer

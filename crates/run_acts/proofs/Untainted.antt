@@ -4,7 +4,7 @@ use Rattle.std.proofs.lemmas.Bool.{cases_eq, cases_lt}
 use Rattle.disk_model.specs.Bytes.{after_mask}
 use Rattle.disk_model.specs.Calls.{GoesOn}
 use Rattle.disk_model.specs.Controls.{disarmed, failure_armed, renamed_as, settled_as, stop_armed}
-use Rattle.disk_model.specs.State.{FileState, LeftNow}
+use Rattle.disk_model.specs.State.{FileState, LeftNow, no_file}
 use Rattle.hmac_keys.specs.declared.Keys.{Keys}
 use Rattle.hmac_keys.specs.KeyTable.{rpmb_key}
 use Rattle.tee_types.specs.Limits.{directory_file, file_count}
@@ -18,7 +18,6 @@ use Rattle.app_quota.specs.declared.quotas.Quota.{Quota}
 use Rattle.store_model.specs.declared.event.Event.{Event}
 use Rattle.store_model.specs.Object.{ObjectMap}
 use Rattle.object_calls.specs.Opening.{OpeningValue, bench_files}
-use Rattle.object_calls.specs.OpeningFiles.{no_file}
 use Rattle.run_acts.specs.Alterations.{AltersFile}
 use Rattle.run_acts.specs.Benches.{BenchState, opening_state}
 use Rattle.run_acts.specs.Between.{AreReadable, TakesImage}

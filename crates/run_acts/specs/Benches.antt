@@ -1,13 +1,13 @@
 -- What is known of the devices of a bench.
 use Rattle.std.specs.Prelude.{◌≡◌, ◌≢◌, ◌≤◌, ◌⊎◌, ℕ}
-use Rattle.disk_model.specs.State.{FileState}
+use Rattle.disk_model.specs.State.{FileState, no_file}
 use Rattle.htree_file.specs.Answers.{FilePassed}
 use Rattle.tee_types.specs.Limits.{directory_file, file_count}
 use Rattle.rpmb_card.specs.Port.{PortState}
 use Rattle.store_commit.specs.declared.fault.MountFault.{MountFault}
 use Rattle.store_commit.specs.declared.fault.MountFault.TheVariants.{NoMemory}
 use Rattle.object_calls.specs.declared.bench.Bench.{Bench}
-use Rattle.object_calls.specs.OpeningFiles.{files_of, no_file}
+use Rattle.object_calls.specs.OpeningFiles.{files_of}
 use Rattle.object_calls.specs.Opening.{OpeningValue, bench_files}
 use Rattle.object_calls.specs.Syncing.{IsOnlySynced}
 

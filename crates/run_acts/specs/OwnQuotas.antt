@@ -7,7 +7,8 @@ use Rattle.core_laws.specs.Stores.{Store}
 use Rattle.history_seats.specs.Records.{HistoryRecord}
 use Rattle.script_text.specs.declared.script.Step.{Step}
 use Rattle.script_text.specs.declared.script.Step.TheVariants.{Call as CallStep}
-use Rattle.quota_store.specs.Attempts.{IsAnswered, IsWaiting}
+use Rattle.quota_store.specs.Attempts.{IsAnswered}
+use Rattle.quota_store.specs.SessionEvents.{IsWaiting}
 use Rattle.quota_store.specs.CallerSessions.{CallerSession, IsCallerOf}
 use Rattle.quota_store.specs.QuotaCallers.{HasKeptLimits, IsBeyondAt}
 use Rattle.quota_store.specs.declared.PlacedReply.{PlacedReply}

@@ -56,7 +56,7 @@ pub use mounting::mount_bench;
 pub use object_calls::{Bench, BlockRead, Halted, Migrated, Shown, ShownObject, card_block};
 pub use object_line::print_object;
 pub use object_list::{Listing, list_objects};
-pub use phase::{PhaseEnd, PhaseOutcome, run_phase};
+pub use phase::{Phase, PhaseEnd, PhaseOutcome, run_phase};
 pub use phase_calls::{make_calls, make_calls_within};
 pub use refusal_line::print_refusal;
 pub use refused_call::RefusedCall;

@@ -47,6 +47,23 @@ use store_model::History;
 use tee_ports::{Entropy, FileRig};
 use tee_types::{AppId, MAX_OBJECTS, NoMemory};
 
+/// A phase that is to be run.
+#[derive(Clone, Copy, Drop)]
+pub struct Phase<'a> {
+    /// Its number. The sessions draw from streams that follow from it.
+    pub number: u64,
+    /// How its calls are served.
+    pub mode: Mode,
+    /// The application of each session.
+    pub applications: &'a [AppId],
+    /// What applications may have at most, where it is said.
+    pub quotas: &'a [Quota],
+    /// What the devices are set to do once the store is mounted.
+    pub arms: &'a [Arm],
+    /// The calls of all sessions.
+    pub calls: &'a [Step],
+}
+
 /// What a phase gives back.
 #[derive(Drop)]
 pub struct PhaseEnd<F, R> {
@@ -174,27 +191,38 @@ fn serve_opened<
     opening: Opening<F, R>,
     keys: &Keys,
     entropy: &E,
-    number: u64,
-    mode: Mode,
-    applications: &[AppId],
-    quotas: &[Quota],
-    arms: &[Arm],
-    calls: &[Step],
+    phase: &Phase,
 ) -> Result<QuotaClosed<F, R>, Bench<F, R>>
     requires keyed { IsKeyed keys.now opening }
     requires none { opening.applications ≡ [] }
-    requires few { length applications.now ≤ 16 }
-    requires number { 16 * number + 16 < 2 ^ 32 }
-    requires arms { All IsArm arms.now }
-    requires calls { AreCalls (length applications.now) calls.now }
-    ensures serves { IfOk result (λ c. ServesOpened F.state R.state (E.is_reliable entropy.now) keys.now applications.now quotas.now arms.now mode calls.now opening
+    requires few { length phase.now.applications.now ≤ 16 }
+    requires number { 16 * phase.now.number + 16 < 2 ^ 32 }
+    requires arms { All IsArm phase.now.arms.now }
+    requires calls { AreCalls (length phase.now.applications.now) phase.now.calls.now }
+    ensures serves { IfOk result (λ c. ServesOpened F.state R.state (E.is_reliable entropy.now) keys.now phase.now.applications.now phase.now.quotas.now phase.now.arms.now phase.now.mode phase.now.calls.now opening
         (bench_state F.state R.state c.closed.bench) c.closed.history.events c.refused.items) }
-    ensures early { IfErr result (λ b. HoldsOfAdmitted quotas.now calls.now (λ steps. ClosesOpened F.state R.state keys.now applications.now arms.now mode steps opening (bench_state F.state R.state b))) }
+    ensures early { IfErr result (λ b. HoldsOfAdmitted phase.now.quotas.now phase.now.calls.now (λ steps. ClosesOpened F.state R.state keys.now phase.now.applications.now phase.now.arms.now phase.now.mode steps opening (bench_state F.state R.state b))) }
     ensures whole { MatchResult result (λ c. vec_len c.closed.bench.files ≡ file_count) (λ b. vec_len b.files ≡ file_count) }
 {
     let mut opening = opening;
-    match make_ready(alloc, &mut opening, entropy, number, applications, arms) {
-        Ok(sessions) => serve_within(rt, alloc, opening, sessions, keys, mode, quotas, calls),
+    match make_ready(
+        alloc,
+        &mut opening,
+        entropy,
+        phase.number,
+        phase.applications,
+        phase.arms,
+    ) {
+        Ok(sessions) => serve_within(
+            rt,
+            alloc,
+            opening,
+            sessions,
+            keys,
+            phase.mode,
+            phase.quotas,
+            phase.calls,
+        ),
         Err(NoMemory {}) => Err(opening.close()),
     }
 }
@@ -220,20 +248,15 @@ pub fn run_phase<
     bench: Bench<F, R>,
     keys: &Keys,
     entropy: &mut E,
-    number: u64,
-    mode: Mode,
-    applications: &[AppId],
-    quotas: &[Quota],
-    arms: &[Arm],
-    calls: &[Step],
+    phase: &Phase,
 ) -> Result<PhaseOutcome<F, R>, Halted<F, R>>
     requires whole { vec_len bench.files ≡ file_count }
-    requires few { length applications.now ≤ 16 }
-    requires number { 16 * number + 16 < 2 ^ 32 }
-    requires calls { AreCalls (length applications.now) calls.now }
-    requires arms { All IsArm arms.now }
-    ensures ends { IfOk result (EndsPhase F.state R.state (E.is_reliable entropy.old) keys.now applications.now quotas.now arms.now mode calls.now (bench_state F.state R.state bench)) }
-    ensures refused { IfErr result (λ h. HoldsOfAdmitted quotas.now calls.now (λ steps. IsGivenUp F.state R.state keys.now applications.now arms.now mode steps
+    requires few { length phase.now.applications.now ≤ 16 }
+    requires number { 16 * phase.now.number + 16 < 2 ^ 32 }
+    requires calls { AreCalls (length phase.now.applications.now) phase.now.calls.now }
+    requires arms { All IsArm phase.now.arms.now }
+    ensures ends { IfOk result (EndsPhase F.state R.state (E.is_reliable entropy.old) keys.now phase.now.applications.now phase.now.quotas.now phase.now.arms.now phase.now.mode phase.now.calls.now (bench_state F.state R.state bench)) }
+    ensures refused { IfErr result (λ h. HoldsOfAdmitted phase.now.quotas.now phase.now.calls.now (λ steps. IsGivenUp F.state R.state keys.now phase.now.applications.now phase.now.arms.now phase.now.mode steps
         (bench_state F.state R.state bench) (bench_state F.state R.state h.bench) (E.faults entropy.old) (E.faults entropy.new) h.fault)) }
     ensures undrawn { IfOk result (λ p. E.faults entropy.new ≡ E.faults entropy.old) }
     ensures whole { IfOk result (λ p. vec_len (bench_left p).files ≡ file_count) }
@@ -246,26 +269,14 @@ pub fn run_phase<
     };
     let starved = before.as_slice();
     let opening = mount_with_memory(alloc, bench, keys, entropy, starved)?;
-    if let Some(sum) = find_excess(&opening, quotas, applications) {
+    if let Some(sum) = find_excess(&opening, phase.quotas, phase.applications) {
         return Ok(PhaseOutcome::OverCommitted {
             bench: opening.close(),
             sum,
         });
     }
     let objects = opening.objects();
-    match serve_opened(
-        rt,
-        alloc,
-        opening,
-        keys,
-        entropy,
-        number,
-        mode,
-        applications,
-        quotas,
-        arms,
-        calls,
-    ) {
+    match serve_opened(rt, alloc, opening, keys, entropy, phase) {
         Ok(served) if had_memory(served.closed.bench.files.as_slice(), starved) => {
             Ok(PhaseOutcome::Served(PhaseEnd {
                 bench: disarm_bench(served.closed.bench),

@@ -1,8 +1,8 @@
 //! Laws of files that stay honest. Each function does nothing: its contract is the law.
 
 ghost use Rattle.std.specs.Prelude.{◌≡◌, ◌≤◌, ℕ, vec_len};
+ghost use Rattle.disk_model.specs.State.{no_file};
 ghost use Rattle.tee_types.specs.Limits.{file_count};
-ghost use Rattle.object_calls.specs.OpeningFiles.{no_file};
 ghost use Rattle.run_acts.specs.Benches.{bench_state};
 ghost use Rattle.run_acts.specs.Untainted.{CrashesStayUntainted, FlipsStayUntainted, ListsStayUntainted, OpeningsStayUntainted, PhasesStayUntainted, RefusalsStayHonest, RestoresStayUntainted, UntaintedFilesAreHonest};
 

@@ -1,8 +1,8 @@
 -- What the run of an audit puts.
+use Rattle.disk_model.specs.State.{no_file}
 use Rattle.std.proofs.Common.{ℕ, ◌∙◌, List, [], ◌++◌, Option, Ok, Err, inl, inr, refl, sym, subst}
 use Rattle.std.proofs.lemmas.List.{append-nil}
 use Rattle.hmac_keys.specs.declared.Keys.{Keys}
-use Rattle.run_acts.specs.OpeningFiles.{no_file}
 use Rattle.folder_export.specs.declared.fault.FileFault.{FileFault as FolderFault}
 use Rattle.folder_audit.specs.declared.fault.AuditFault.TheVariants.{Failed as FileFailed, NoMemory as NoRoom, Refused}
 use Rattle.folder_audit.specs.Audit.{AuditsFolder, FolderStates}

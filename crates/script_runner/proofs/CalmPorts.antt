@@ -1,6 +1,6 @@
 -- A port that is calm counts no fault, as long as it is not armed.
 use Rattle.std.proofs.Common.{◌≡◌, ◌⊎◌, ◌∙◌, ◌||◌, ℕ, List, Bool, true, false, IsTrue, Result, Ok, Err, inl, inr, refl, sym, ap, subst}
-use Rattle.disk_model.specs.State.{FileState}
+use Rattle.disk_model.specs.State.{FileState, no_file}
 use Rattle.tee_ports.specs.declared.failed.Failed.{Failed as FailedCall}
 use Rattle.hmac_keys.specs.declared.Keys.{Keys}
 use Rattle.hmac_keys.specs.KeyTable.{rpmb_key}
@@ -24,7 +24,6 @@ use Rattle.store_commit.specs.Reads.{AsksBlock, AsksCounter, IsCardRead, IsRootW
 use Rattle.store_model.specs.Object.{ObjectMap}
 use Rattle.run_acts.specs.MountRefusals.{BenchCounts}
 use Rattle.run_acts.specs.Opening.{OpeningValue}
-use Rattle.run_acts.specs.OpeningFiles.{no_file}
 use Rattle.run_acts.specs.Benches.{BenchState, opening_state}
 use Rattle.run_acts.specs.ListedBenches.{IsListRefused, ListRefusal, ListsBench, StopsListing, starved, stopped, unasked, unmounted, unshown}
 use Rattle.run_acts.specs.MountedDevices.{IsMounted, IsMountRefused}

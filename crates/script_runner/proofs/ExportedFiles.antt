@@ -1,12 +1,12 @@
 -- The files of an export by their numbers.
 use Rattle.std.proofs.Common.{◌≡◌, ℕ, zero, suc, List, [], ◌∷◌, inl, inr, refl, subst}
-use Rattle.disk_model.specs.State.{FileState}
+use Rattle.disk_model.specs.State.{FileState, no_file}
 use Rattle.disk_model.specs.Calls.{GoesOn, Rests}
 use Rattle.disk_model.proofs.Goings.{goes_on_none, rests_none}
 use Rattle.folder_export.specs.declared.fault.FileFault.{FileFault as Fault}
 use Rattle.folder_export.specs.Exports.{ExportsStore, StopsExport}
 use Rattle.folder_export.specs.Folders.{states_of}
-use Rattle.run_acts.specs.OpeningFiles.{files_of, no_file}
+use Rattle.run_acts.specs.OpeningFiles.{files_of}
 use Rattle.script_runner.specs.declared.status.Status.TheVariants.{Done, FileFault, NoMemory}
 use Rattle.script_runner.specs.Exports.{CopiesFiles, FilesHadMemory}
 

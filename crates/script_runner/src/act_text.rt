@@ -9,10 +9,8 @@ ghost use Rattle.script_runner.specs.Prints.{IsCutOff, IsSent, PrintsExcess, Pri
 ghost use Rattle.script_runner.specs.RefusedLines.{refused_lines};
 
 use crate::run_state::{Run, RunEnd};
-use crate::{Status, flush, send_control, send_lines, send_phase};
-use run_acts::RefusedCall;
-use script_text::{Control, Mode, Script, Step};
-use store_model::History;
+use crate::{PhaseText, Status, flush, send_control, send_lines, send_phase};
+use script_text::{Control, Script};
 use tee_ports::Sink;
 
 /// Sends the line of a control.
@@ -68,35 +66,20 @@ pub(crate) fn print_list<K: Sink, F: Drop, R: Drop>(
     }
 }
 
-/// Sends the text of a phase of that number and mode, which opened with so many objects and has this history, some of its calls being refused.
+/// Sends the text of a phase.
 pub(crate) fn print_phase_act<K: Sink, F: Drop, R: Drop>(
     script: &Script,
-    number: u64,
-    mode: Mode,
-    objects: u16,
-    history: &History,
-    calls: &[Step],
-    refused: &[RefusedCall],
+    phase: &PhaseText,
     run: Run<F, R>,
     sink: &mut K,
 ) -> Result<Run<F, R>, RunEnd<F, R>>
-    ensures ok { IfOk result (IsSent (K.held sink.old) (K.held sink.new) (phase_line number mode objects ++ events_text script.now 0 history.now.events ++ refused_lines script.now calls.now refused.now) run) }
+    ensures ok { IfOk result (IsSent (K.held sink.old) (K.held sink.new) (phase_line phase.now.number phase.now.mode phase.now.objects ++ events_text script.now 0 phase.now.history.now.events ++ refused_lines script.now phase.now.calls.now phase.now.refused.now) run) }
     ensures err { IfErr result (IsCutOff (Rose (K.faults sink.old) (K.faults sink.new) ⊎ K.is_full sink.new) (K.held sink.old) (K.held sink.new)
-        (phase_line number mode objects ++ events_text script.now 0 history.now.events ++ refused_lines script.now calls.now refused.now) run) }
+        (phase_line phase.now.number phase.now.mode phase.now.objects ++ events_text script.now 0 phase.now.history.now.events ++ refused_lines script.now phase.now.calls.now phase.now.refused.now) run) }
     ensures counted { K.faults sink.old ≤ K.faults sink.new }
 {
     let mut run = run;
-    match send_phase(
-        script,
-        number,
-        mode,
-        objects,
-        history,
-        calls,
-        refused,
-        sink,
-        &mut run.kept,
-    ) {
+    match send_phase(script, phase, sink, &mut run.kept) {
         Ok(()) => Ok(run),
         Err(status) => Err(RunEnd {
             status,

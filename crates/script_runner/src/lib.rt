@@ -40,7 +40,7 @@ pub use card_laws::{card_runs_are_of_a_map, card_runs_count, quiet_card_runs_end
 pub use card_port::CardPort;
 pub use folder_export::{FOLDER_FILES, FileFault, FilePlace};
 pub use forms::{Form, folder_of, form_of, words_have_forms};
-pub use phase_text::{send_control, send_lines, send_phase};
+pub use phase_text::{PhaseText, send_control, send_lines, send_phase};
 pub use record_laws::{
     migrations_end, migrations_tell_no_old_file, opened_runs_are_of_machine,
     quiet_runs_are_of_machine, quiet_runs_end, quota_runs_isolate, runs_count_as_armed,

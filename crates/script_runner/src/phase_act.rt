@@ -8,12 +8,13 @@ ghost use Rattle.tee_ports.specs.Faults.{Rose};
 ghost use Rattle.script_runner.specs.RunReady.{IsCallFirst, IsReady, IsSound};
 ghost use Rattle.script_runner.specs.Running.{EndsAt, GoesOn};
 
+use crate::PhaseText;
 use crate::act_text::{print_excess, print_phase_act};
 use crate::mount_refusal::print_mount_refusal;
 use crate::run_state::{Run, RunEnd};
 use hmac_keys::Keys;
 use rpmb_card::CardRig;
-use run_acts::{Halted, PhaseEnd, PhaseOutcome, run_phase};
+use run_acts::{Halted, Phase, PhaseEnd, PhaseOutcome, run_phase};
 use script_text::{Script, Step};
 use std::alloc::Global;
 use std::sync::Wait;
@@ -81,19 +82,15 @@ pub(crate) fn do_phase<
         kept,
     } = run;
     let calls = calls_from(script, at);
-    match run_phase(
-        rt,
-        alloc,
-        bench,
-        keys,
-        entropy,
+    let phase = Phase {
         number,
         mode,
-        script.applications(),
-        quotas.as_slice(),
-        arms.as_slice(),
+        applications: script.applications(),
+        quotas: quotas.as_slice(),
+        arms: arms.as_slice(),
         calls,
-    ) {
+    };
+    match run_phase(rt, alloc, bench, keys, entropy, &phase) {
         Ok(PhaseOutcome::Served(end)) => {
             let PhaseEnd {
                 bench,
@@ -111,17 +108,15 @@ pub(crate) fn do_phase<
                 at: at + calls.len(),
                 kept,
             };
-            print_phase_act(
-                script,
+            let text = PhaseText {
                 number,
                 mode,
                 objects,
-                &history,
+                history: &history,
                 calls,
-                refused.as_slice(),
-                run,
-                sink,
-            )
+                refused: refused.as_slice(),
+            };
+            print_phase_act(script, &text, run, sink)
         }
         Ok(PhaseOutcome::OverCommitted { bench, sum }) => {
             let status = print_excess(sum, sink, kept);

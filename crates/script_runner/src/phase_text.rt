@@ -14,6 +14,23 @@ use script_text::{Control, Mode, Script, Step, print_control, print_event, print
 use store_model::{Event, History};
 use tee_ports::Sink;
 
+/// What is told of a phase.
+#[derive(Clone, Copy, Drop)]
+pub struct PhaseText<'a> {
+    /// The phase's number.
+    pub number: u64,
+    /// How its calls were served.
+    pub mode: Mode,
+    /// How many objects there were as it opened.
+    pub objects: u16,
+    /// Its events.
+    pub history: &'a History,
+    /// Its calls.
+    pub calls: &'a [Step],
+    /// Those that were refused under quotas.
+    pub refused: &'a [RefusedCall],
+}
+
 /// Sends the line of one event.
 fn send_event<K: Sink>(
     script: &Script,
@@ -34,75 +51,60 @@ fn send_event<K: Sink>(
 }
 
 /// Sends the line before a phase's history.
-fn send_header<K: Sink>(
-    number: u64,
-    mode: Mode,
-    objects: u16,
-    sink: &mut K,
-    kept: &mut Vec<u8>,
-) -> Result<(), Status>
-    ensures ok { OnOk result (Sends (K.held sink.old) (K.held sink.new) kept.old.items kept.new.items (phase_line number mode objects)) }
-    ensures err { OnErr result (Stops (K.held sink.old) (K.held sink.new) kept.old.items (phase_line number mode objects)) }
+fn send_header<K: Sink>(phase: &PhaseText, sink: &mut K, kept: &mut Vec<u8>) -> Result<(), Status>
+    ensures ok { OnOk result (Sends (K.held sink.old) (K.held sink.new) kept.old.items kept.new.items (phase_line phase.now.number phase.now.mode phase.now.objects)) }
+    ensures err { OnErr result (Stops (K.held sink.old) (K.held sink.new) kept.old.items (phase_line phase.now.number phase.now.mode phase.now.objects)) }
     ensures error { IfErr result (IsWriteError (Rose (K.faults sink.old) (K.faults sink.new) ⊎ K.is_full sink.new)) }
     ensures counted { K.faults sink.old ≤ K.faults sink.new }
     // Less than a piece stays kept.
     ensures small { OnOk result (length kept.new.items < PIECE) }
 {
-    print_phase(number, mode, objects, kept)?;
+    print_phase(phase.number, phase.mode, phase.objects, kept)?;
     flush(sink, kept, PIECE)
 }
 
 /// Sends the line before a phase's history, and its events.
 fn send_history<K: Sink>(
     script: &Script,
-    number: u64,
-    mode: Mode,
-    objects: u16,
-    history: &History,
+    phase: &PhaseText,
     sink: &mut K,
     kept: &mut Vec<u8>,
 ) -> Result<(), Status>
     ensures ok { OnOk result (Sends (K.held sink.old) (K.held sink.new) kept.old.items kept.new.items
-        (phase_line number mode objects ++ events_text script.now 0 history.now.events)) }
+        (phase_line phase.now.number phase.now.mode phase.now.objects ++ events_text script.now 0 phase.now.history.now.events)) }
     ensures err { OnErr result (Stops (K.held sink.old) (K.held sink.new) kept.old.items
-        (phase_line number mode objects ++ events_text script.now 0 history.now.events)) }
+        (phase_line phase.now.number phase.now.mode phase.now.objects ++ events_text script.now 0 phase.now.history.now.events)) }
     ensures error { IfErr result (IsWriteError (Rose (K.faults sink.old) (K.faults sink.new) ⊎ K.is_full sink.new)) }
     ensures counted { K.faults sink.old ≤ K.faults sink.new }
     // Less than a piece stays kept.
     ensures small { OnOk result (length kept.new.items < PIECE) }
 {
-    send_header(number, mode, objects, sink, kept)?;
-    for place in 0..history.len() {
-        let event = event_at(history, place);
+    send_header(phase, sink, kept)?;
+    for place in 0..phase.history.len() {
+        let event = event_at(phase.history, place);
         send_event(script, place, event, sink, kept)?;
     }
     Ok(())
 }
 
-/// Sends the text of a phase of that number and mode, which opened with so many objects and has this history: below its events stand the
-/// lines of its calls that were refused under quotas.
+/// Sends the text of a phase: below its events stand the lines of its calls that were refused under quotas.
 pub fn send_phase<K: Sink>(
     script: &Script,
-    number: u64,
-    mode: Mode,
-    objects: u16,
-    history: &History,
-    calls: &[Step],
-    refused: &[RefusedCall],
+    phase: &PhaseText,
     sink: &mut K,
     kept: &mut Vec<u8>,
 ) -> Result<(), Status>
     ensures ok { OnOk result (Sends (K.held sink.old) (K.held sink.new) kept.old.items kept.new.items
-        (phase_line number mode objects ++ events_text script.now 0 history.now.events ++ refused_lines script.now calls.now refused.now)) }
+        (phase_line phase.now.number phase.now.mode phase.now.objects ++ events_text script.now 0 phase.now.history.now.events ++ refused_lines script.now phase.now.calls.now phase.now.refused.now)) }
     ensures err { OnErr result (Stops (K.held sink.old) (K.held sink.new) kept.old.items
-        (phase_line number mode objects ++ events_text script.now 0 history.now.events ++ refused_lines script.now calls.now refused.now)) }
+        (phase_line phase.now.number phase.now.mode phase.now.objects ++ events_text script.now 0 phase.now.history.now.events ++ refused_lines script.now phase.now.calls.now phase.now.refused.now)) }
     ensures error { IfErr result (IsWriteError (Rose (K.faults sink.old) (K.faults sink.new) ⊎ K.is_full sink.new)) }
     ensures counted { K.faults sink.old ≤ K.faults sink.new }
     // Less than a piece stays kept.
     ensures small { OnOk result (length kept.new.items < PIECE) }
 {
-    send_history(script, number, mode, objects, history, sink, kept)?;
-    send_refused(script, calls, refused, sink, kept)
+    send_history(script, phase, sink, kept)?;
+    send_refused(script, phase.calls, phase.refused, sink, kept)
 }
 
 /// Sends the line of a control that is done.

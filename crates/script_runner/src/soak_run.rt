@@ -15,7 +15,8 @@ use crate::run_state::RunEnd;
 use hmac_keys::Keys;
 use rpmb_card::CardRig;
 use run_acts::{
-    Bench, Halted, Listing, MountFault, PhaseEnd, PhaseOutcome, list_objects, open_bench, run_phase,
+    Bench, Halted, Listing, MountFault, Phase, PhaseEnd, PhaseOutcome, list_objects, open_bench,
+    run_phase,
 };
 use script_text::Mode;
 use seed_words::{soak_lines, soak_script};
@@ -97,19 +98,15 @@ fn soak_opened<
     };
     // The first step sets the mode.
     let calls = calls_from(&script, 1);
-    match run_phase(
-        rt,
-        alloc,
-        bench,
-        keys,
-        entropy,
-        0,
-        Mode::Threads,
-        script.applications(),
-        &[],
-        &[],
+    let phase = Phase {
+        number: 0,
+        mode: Mode::Threads,
+        applications: script.applications(),
+        quotas: &[],
+        arms: &[],
         calls,
-    ) {
+    };
+    match run_phase(rt, alloc, bench, keys, entropy, &phase) {
         Ok(PhaseOutcome::Served(end)) => {
             let PhaseEnd { bench, history, .. } = end;
             print_soak(alloc, number, bench, &history, keys, entropy)

@@ -7,9 +7,8 @@ use Rattle.call_steps.specs.CallerSessions.{CallerSession}
 use Rattle.serial_calls.specs.Appending.{MayBeAppended}
 use Rattle.dir_records.specs.declared.entry.DirEntry.{DirEntry}
 use Rattle.core_laws.proofs.RightTags.{unchanged_right}
-use Rattle.core_laws.specs.EventAnswers.{unchanged_record}
 use Rattle.core_laws.specs.TagLaws.{NamesGiven}
-use Rattle.history_seats.specs.Changes.{TagVersions}
+use Rattle.history_seats.specs.Changes.{TagVersions, call_record}
 use Rattle.history_seats.specs.Directory.{given_version}
 use Rattle.history_seats.specs.Mounts.{Mounted}
 use Rattle.history_seats.specs.Records.{HistoryRecord, Version}
@@ -83,7 +82,7 @@ module _ {F R E : Type 0} (store : Store) (gate : GateValue F R) (knows : GateVi
   r = slot_record store knows seat.knows s.number s.made call reply
 
   record-is : told ≡ r
-  record-is = λ i. unchanged_record s.number s.made call reply (Some (record {
+  record-is = λ i. call_record s.number s.made call reply Unchanged (Some (record {
     file = sym file-is i;
     generation = sym may.at.generation i;
     committed = sym given-view i;

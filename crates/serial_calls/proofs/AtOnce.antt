@@ -1,9 +1,10 @@
 -- A misuse is answered at once, behind room that was made.
-use Rattle.std.proofs.Common.{◌≡◌, ◌∙◌, ℕ, List, ap, length, refl, subst, sym}
+use Rattle.std.proofs.Common.{◌≡◌, ◌∙◌, ℕ, List, ap, length, refl, subst, sym, None}
+use Rattle.store_model.specs.declared.event.Mark.TheVariants.{Unchanged}
 use Rattle.std.specs.Prelude.{IsSome}
 use Rattle.tee_types.specs.declared.call.Call.{Call}
 use Rattle.store_model.specs.Machine.{Session}
-use Rattle.history_seats.specs.Changes.{with_record}
+use Rattle.history_seats.specs.Changes.{with_record, call_record}
 use Rattle.history_seats.specs.Views.{GateView}
 use Rattle.call_rules.specs.Matches.{Matches}
 use Rattle.core_laws.specs.Stores.{Store}
@@ -11,7 +12,6 @@ use Rattle.call_steps.specs.CallerSessions.{CallerSession}
 use Rattle.call_steps.specs.GateServed.{IsMisused, IsServedAtOnce}
 use Rattle.call_steps.specs.Gates.{GateValue}
 use Rattle.call_steps.specs.GuardedGates.{GuardedGateValue}
-use Rattle.call_steps.specs.JournalCalls.{alone_record}
 use Rattle.call_steps.specs.SessionViews.{shown}
 use Rattle.call_steps.specs.SlotValues.{SlotValue}
 use Rattle.call_steps.specs.declared.PlacedReply.{PlacedReply}
@@ -59,7 +59,7 @@ module _ {E F R : Type 0} (store : Store) (call : Call) (first old new : Guarded
     };
     misuse = s.misuse;
     place = s.served.place ∙ ap (λ (v : GateView). length v.all) knows;
-    knows = subst (λ (v : GateView). new.journal.knows ≡ with_record (alone_record was.number was.made call answer.reply) v) knows s.served.knows;
+    knows = subst (λ (v : GateView). new.journal.knows ≡ with_record (call_record was.number was.made call answer.reply Unchanged None) v) knows s.served.knows;
   }
 
   pub unanswered_at_once : new ≡ old → now.entropy ≡ was.entropy

@@ -10,7 +10,7 @@ use Rattle.history_seats.specs.Mounts.{Mounted}
 use Rattle.history_seats.specs.Rule.{Agrees}
 use Rattle.history_seats.specs.Views.{GateView, PassView, Sight, SlotView}
 use Rattle.call_steps.specs.Commits.{IsCalm}
-use Rattle.call_steps.specs.GuardedGates.{GateInvariant, change_in_doubt}
+use Rattle.call_steps.specs.GuardedGates.{GateInvariant}
 use Rattle.call_steps.specs.declared.Closing.{Closing}
 use Rattle.call_steps.proofs.Contents.{seat_same}
 use Rattle.call_steps.specs.GuardedSlots.{SlotInvariant, IsSlotOf}
@@ -18,7 +18,7 @@ use Rattle.call_steps.proofs.NewFiles.{reseated}
 use Rattle.call_steps.specs.CreateLaws.{IsReseated, new_seat}
 use Rattle.call_steps.specs.SlotValues.{IsFree, SlotValue, free}
 use Rattle.call_steps.specs.Gates.{GateValue}
-use Rattle.call_steps.specs.declared.Doubted.{Doubted}
+use Rattle.call_steps.specs.declared.DoubtedChange.{DoubtedChange}
 use Rattle.core_laws.specs.Stores.{Store}
 
 pub own_of : (store : Store) (slot : SlotValue) → SlotInvariant store slot → (lent : Sight SlotView) → slot.seat ≡ Some lent → IsSlotOf store slot.number slot.file lent
@@ -38,7 +38,7 @@ module _ {F R : Type 0} (store : Store) (gate : GateValue F R) (knows : GateView
   own = own_of store slot was old lent
 
   tied : IsTied store knows gate.dir.dir.entries gate.counter None
-  tied = subst (λ (d : Option Doubted). IsTied store knows gate.dir.dir.entries gate.counter (change_in_doubt d)) idle guarded.tied
+  tied = subst (λ (d : Option DoubtedChange). IsTied store knows gate.dir.dir.entries gate.counter d) idle guarded.tied
 
   -- it is as a new seat of its own generation
   shown_new : new_seat store knows slot.number old.knows.generation ≡ seat_shown

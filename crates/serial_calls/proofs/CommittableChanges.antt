@@ -7,7 +7,7 @@ use Rattle.serial_calls.specs.Renewed.{renewal, renewed_entry}
 use Rattle.serial_calls.specs.ChangeStaging.{IsStagedChange, StagesChange, resizing, writing}
 use Rattle.serial_calls.specs.declared.stage_result.Staged.TheVariants.{Root}
 use Rattle.crash_core.specs.DirectoryLaws.{AreEntries}
-use Rattle.crash_core.specs.EntryChanges.{Put}
+use Rattle.crash_core.specs.declared.change.EntryChange.TheVariants.{Put}
 use Rattle.dir_records.specs.declared.entry.DirEntry.{DirEntry}
 use Rattle.history_seats.specs.Changes.{TagVersions}
 use Rattle.history_seats.specs.Directory.{given_version}
@@ -33,7 +33,6 @@ use Rattle.call_steps.specs.ObjectCommits.{IsCommittable}
 use Rattle.call_steps.specs.SlotCommits.{IsSlotCommit}
 use Rattle.call_steps.specs.StagedVersions.{change_versions, changed_entry}
 use Rattle.call_steps.specs.SlotValues.{SlotValue, without_stage}
-use Rattle.call_steps.specs.Changes.{change_of}
 use Rattle.call_steps.specs.Gates.{GateValue}
 use Rattle.core_laws.specs.Masked.{told_taints}
 use Rattle.core_laws.specs.Stores.{Store}
@@ -102,13 +101,13 @@ module _ {F R E : Type 0} (store : Store) (gate : GateValue F R) (knows : GateVi
 
     pub brings_renewed : (size : ℕ) → next.size ≡ size → (call : Call)
         → IsSlotCommit store knows gate.dir.dir.entries gate.counter s.number s.made call Done (Put found.held.index (changed_entry e next)) slot.file seat.knows (change_versions v next)
-        → (versions : TagVersions) × IsCommittable store gate knows slot s call Done (change_of (renewal found.held root size)) versions
+        → (versions : TagVersions) × IsCommittable store gate knows slot s call Done (renewal found.held root size) versions
     brings_renewed size is call commit =
         (change_versions v next, subst (λ (x : DirEntry). IsCommittable store gate knows slot s call Done (Put found.held.index x) (change_versions v next)) (renews size is) (brings call commit))
 
   pub write_committable : (bytes : List ℕ) → (length bytes == 0) ≡ false → found.handle.position + length bytes ≤ 1044480
       → StagesChange store slot v (writing found.handle.position bytes) (Root root)
-      → (versions : TagVersions) × IsCommittable store gate knows slot s (Write number bytes) Done (change_of (renewal found.held root (max e.size (found.handle.position + length bytes)))) versions
+      → (versions : TagVersions) × IsCommittable store gate knows slot s (Write number bytes) Done (renewal found.held root (max e.size (found.handle.position + length bytes))) versions
   write_committable bytes some fits stages =
       let change : VersionChange = write_of v.size found.handle.position bytes in
       brings_renewed change stages (max e.size (found.handle.position + length bytes))
@@ -117,7 +116,7 @@ module _ {F R E : Type 0} (store : Store) (gate : GateValue F R) (knows : GateVi
       (record { right = rightful.has_right; some = some; fits = fits }) (told_here change stages) stages.version)
 
   pub truncate_committable : (size : ℕ) → (size == e.size) ≡ false → size ≤ 1044480 → StagesChange store slot v (resizing size) (Root root)
-      → (versions : TagVersions) × IsCommittable store gate knows slot s (Truncate number size) Done (change_of (renewal found.held root size)) versions
+      → (versions : TagVersions) × IsCommittable store gate knows slot s (Truncate number size) Done (renewal found.held root size) versions
   truncate_committable size other fits stages =
       let change : VersionChange = resize_of v.size size in
       brings_renewed change stages size stages.version.follows.size (Truncate number size)

@@ -4,7 +4,7 @@ use Rattle.call_steps.specs.CallerSessions.{CallerSession}
 use Rattle.call_rules.specs.Objects.{IsOpenObject}
 use Rattle.call_rules.specs.declared.decision.OpenObject.{OpenObject}
 use Rattle.crash_core.specs.DirectoryLaws.{AreEntries}
-use Rattle.crash_core.specs.EntryChanges.{Clear, Put}
+use Rattle.crash_core.specs.declared.change.EntryChange.TheVariants.{Clear, Put}
 use Rattle.call_steps.specs.Index.{named}
 use Rattle.dir_records.specs.declared.entry.DirEntry.{DirEntry}
 use Rattle.history_seats.specs.Directory.{given_version}

@@ -9,7 +9,7 @@ use Rattle.serial_calls.specs.FileReserving.{IsReserved}
 use Rattle.serial_calls.specs.Rules.{MayCreate, NewObject, create_call}
 use Rattle.serial_calls.specs.Seating.{IsFreshSlot, unmade}
 use Rattle.crash_core.specs.DirectoryLaws.{AreEntries}
-use Rattle.crash_core.specs.EntryChanges.{Put}
+use Rattle.crash_core.specs.declared.change.EntryChange.TheVariants.{Put}
 use Rattle.crash_core.specs.EntryLists.{IsUnnamed}
 use Rattle.dir_records.specs.declared.entry.DirEntry.{DirEntry}
 use Rattle.history_seats.specs.Views.{GateView, Sight, SlotView}

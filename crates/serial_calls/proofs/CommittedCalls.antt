@@ -1,7 +1,7 @@
 -- What a commit on an object leaves of the store that serves it.
 use Rattle.std.proofs.Common.{◌≡◌, ℕ, List, None, Option, Some, refl, sym, ap, ◌∙◌, subst}
 use Rattle.tee_types.specs.Limits.{IsObjectFile}
-use Rattle.call_steps.specs.CallerSessions.{CallerSession, session_value}
+use Rattle.call_steps.specs.CallerSessions.{CallerSession}
 use Rattle.crash_core.specs.EntryChanges.{file_put}
 use Rattle.disk_model.specs.State.{FileState}
 use Rattle.history_seats.specs.Views.{GateView}
@@ -15,7 +15,6 @@ use Rattle.rpmb_host.specs.Honest.{HadCard, HasCard}
 use Rattle.call_steps.specs.CardEnds.{CardGoesOn}
 use Rattle.call_steps.specs.Causes.{CauseStands, Counted, DoubtIsByCard, EndCause, NoCard, counts}
 use Rattle.call_steps.specs.Counts.{CauseCounts, DoubtCounts, EndCounts, RoseAlone}
-use Rattle.call_steps.specs.Changes.{change_of}
 use Rattle.call_steps.specs.Gates.{GateValue, LeavesHolds, file_in_doubt, gate_sides}
 use Rattle.call_steps.specs.Heard.{EndHeard, HeardCause}
 use Rattle.call_steps.specs.Holds.{EndsHold, file_held, unless_file}
@@ -23,7 +22,6 @@ use Rattle.call_steps.specs.declared.CommitEnd.{CommitEnd}
 use Rattle.call_steps.specs.declared.CommitEnd.TheVariants.{Doubtful, Dropped, Made, Spent}
 use Rattle.call_steps.specs.declared.EntryChange.{EntryChange}
 use Rattle.store_model.specs.declared.event.Event.TheVariants.{Call as CallEvent}
-use Rattle.core_laws.specs.Sessions.{Extends}
 use Rattle.core_laws.specs.Stores.{Store}
 use Rattle.tee_types.specs.declared.call.Call.{Call}
 use Rattle.tee_types.specs.declared.reply.Cause.{Cause}
@@ -48,9 +46,7 @@ module _ {F R E : Type 0} (of_file : F → FileState) (of_port : R → PortState
   pub committed_appends : AppendsCall store old new was now call answer
   committed_appends = record {
     mark = mark_told c.end;
-    extends = subst (λ (r : Reply). Extends store (session_value was) (session_value now) (CallEvent was.number was.made call r (mark_told c.end)) answer.place) (sym c.reply) c.extends;
-    whole = c.whole;
-    made = c.made;
+    appends = c.appends;
     place = c.place;
     last = c.last;
     event = c.event ∙ ap (λ (r : Reply). CallEvent was.number was.made call r (mark_told c.end)) (sym c.reply);
@@ -176,7 +172,7 @@ none_without (Some file) old new ends none session = ends session ∙ ap (unless
 
 none_left : (change : EntryChange) (end : CommitEnd) (old new : List (Option ℕ)) → LeavesHolds change end old new → ((session : ℕ) → file_held old session ≡ None)
     → (session : ℕ) → file_held new session ≡ None
-none_left change (Made n) old new leaves none session = none_without (file_put (change_of change)) old new leaves none session
+none_left change (Made n) old new leaves none session = none_without (file_put change) old new leaves none session
 none_left change (Dropped cause) old new leaves none session = ap (λ (l : List (Option ℕ)). file_held l session) leaves ∙ none session
 none_left change (Doubtful n cause) old new leaves none session = ap (λ (l : List (Option ℕ)). file_held l session) leaves ∙ none session
 none_left change Spent old new leaves none session = ap (λ (l : List (Option ℕ)). file_held l session) leaves ∙ none session

@@ -12,6 +12,7 @@ use Rattle.disk_model.specs.State.{FileState}
 use Rattle.call_steps.specs.GuardedGates.{GuardedGateValue}
 use Rattle.call_steps.specs.declared.PlacedReply.{PlacedReply}
 use Rattle.node_image.specs.declared.node.RootRef.{RootRef}
+use Rattle.call_steps.specs.GateEnds.{mark_told}
 use Rattle.call_steps.specs.ObjectCommits.{IsCommitted}
 use Rattle.rpmb_card.specs.Port.{PortState}
 use Rattle.rpmb_card.specs.Protocol.{last_counter}
@@ -19,6 +20,7 @@ use Rattle.call_steps.specs.declared.EntryChange.{EntryChange}
 use Rattle.core_laws.specs.Stores.{Store}
 use Rattle.tee_types.specs.declared.call.Call.{Call}
 use Rattle.tee_types.specs.declared.reply.Reply.{Reply}
+use Rattle.call_steps.proofs.GoingOn.{appends-drawn}
 use Rattle.serial_calls.proofs.Results.{served_drawn}
 
 -- A session is the same, whatever its generator is.
@@ -40,10 +42,7 @@ module _ {F R E : Type 0} (store : Store) (old new : GuardedGateValue F R) (file
       end = c.end;
       reply = c.reply;
       place = c.place;
-      extends = c.extends;
-      whole = c.whole;
-      number = c.number;
-      made = c.made;
+      appends = appends-drawn store was now mid.entropy call answer (mark_told c.end) c.appends;
       last = c.last;
       event = c.event;
       tagged = c.tagged;
@@ -116,6 +115,6 @@ module _ {F R E : Type 0} (of_file : F → FileState) (of_port : R → PortState
 pub answered_number : {F R E A : Type 0} (of_file : F → FileState) (of_port : R → PortState) (store : Store) (old new : GuardedGateValue F R) (file : ℕ) (before after : FileState) (was now : CallerSession E)
     (object : NewObject) (place : NewPlace) (Reliable : Type 0) (drew draws : ℕ) (result : Result PlacedReply A)
     → IsAnsweredOrNot of_file of_port store old new file before after was now object place Reliable drew draws result → now.number ≡ was.number
-answered_number of_file of_port store old new file before after was now object place Reliable drew draws (Ok answer) (Committable new_ passed) = new_.committed.number
-answered_number of_file of_port store old new file before after was now object place Reliable drew draws (Ok answer) (ToldWhy told cause) = told.served.extends.number
+answered_number of_file of_port store old new file before after was now object place Reliable drew draws (Ok answer) (Committable new_ passed) = new_.committed.appends.extends.number
+answered_number of_file of_port store old new file before after was now object place Reliable drew draws (Ok answer) (ToldWhy told cause) = told.served.appends.extends.number
 answered_number {E = E} of_file of_port store old new file before after was now object place Reliable drew draws (Err none) untold = ap (λ (s : CallerSession E). s.number) untold.session

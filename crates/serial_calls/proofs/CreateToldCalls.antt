@@ -19,14 +19,14 @@ use Rattle.history_seats.specs.Views.{GateView, SlotView}
 use Rattle.call_steps.proofs.Knowing.{guarded_know, shown_stand}
 use Rattle.call_steps.proofs.ReadyCommits.{unmade_moves}
 use Rattle.call_steps.specs.Commits.{IsCalm}
-use Rattle.call_steps.specs.GuardedGates.{GateInvariant, change_in_doubt}
+use Rattle.call_steps.specs.GuardedGates.{GateInvariant}
 use Rattle.call_steps.specs.SlotAnswers.{MayBeTold, slot_record, versions_given}
 use Rattle.call_steps.specs.declared.Closing.{Closing}
 use Rattle.call_rules.specs.OpenLaws.{IsOpenedFile}
 use Rattle.open_table.specs.Table.{TableState}
 use Rattle.call_steps.specs.Gates.{GateValue}
 use Rattle.open_table.specs.HandleChanges.{NotesReply}
-use Rattle.call_steps.specs.declared.Doubted.{Doubted}
+use Rattle.call_steps.specs.declared.DoubtedChange.{DoubtedChange}
 use Rattle.store_model.specs.Calls.{is_commit}
 use Rattle.store_model.specs.Files.{makes_object}
 use Rattle.store_model.specs.Legal.{meant_by}
@@ -77,7 +77,7 @@ module _ {F R E : Type 0} (store : Store) (gate : GateValue F R) (knows : GateVi
   entries = gate.dir.dir.entries
 
   tied : IsTied store knows entries gate.counter None
-  tied = subst (λ (d : Option Doubted). IsTied store knows entries gate.counter (change_in_doubt d)) idle guarded.tied
+  tied = subst (λ (d : Option DoubtedChange). IsTied store knows entries gate.counter d) idle guarded.tied
 
   -- the tag of its record names the file
   abbrev named : Tag Version

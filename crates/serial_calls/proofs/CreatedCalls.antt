@@ -51,9 +51,7 @@ moved_appends : {F R E : Type 0} (store : Store) (old new from to : GuardedGateV
     → from.journal.knows.all ≡ old.journal.knows.all → new.journal.knows.all ≡ to.journal.knows.all → AppendsCall store from to was now call answer → AppendsCall store old new was now call answer
 moved_appends store old new from to was now call answer began ended a = record {
   mark = a.mark;
-  extends = a.extends;
-  whole = a.whole;
-  made = a.made;
+  appends = a.appends;
   place = a.place ∙ ap length began;
   last = a.last;
   event = a.event;

@@ -11,7 +11,7 @@ use Rattle.history_seats.specs.Changes.{together}
 use Rattle.history_seats.specs.Numbers.{without}
 use Rattle.history_seats.specs.Rule.{Agrees, IsSound}
 use Rattle.history_seats.specs.Views.{GateView, Sight, SlotView}
-use Rattle.call_steps.specs.GuardedGates.{GateInvariant, change_in_doubt}
+use Rattle.call_steps.specs.GuardedGates.{GateInvariant}
 use Rattle.call_steps.specs.declared.Closing.{Closing}
 use Rattle.call_steps.specs.GuardedSlots.{IsSlotOf}
 use Rattle.call_steps.proofs.NewFiles.{reseated}
@@ -19,7 +19,7 @@ use Rattle.call_steps.specs.CreateLaws.{IsReseated, new_seat}
 use Rattle.call_steps.specs.SlotValues.{SlotValue}
 use Rattle.rpmb_card.specs.Protocol.{last_counter}
 use Rattle.call_steps.specs.Gates.{GateValue}
-use Rattle.call_steps.specs.declared.Doubted.{Doubted}
+use Rattle.call_steps.specs.declared.DoubtedChange.{DoubtedChange}
 use Rattle.store_model.specs.Record.{concerns_file}
 use Rattle.core_laws.specs.Stores.{Store}
 
@@ -50,7 +50,7 @@ module _ {F R : Type 0} (store : Store) (gate : GateValue F R) (knows : GateView
   own = own_of store (unmade slot) empty.guarded old lent
 
   tied : IsTied store knows gate.dir.dir.entries gate.counter None
-  tied = subst (λ (d : Option Doubted). IsTied store knows gate.dir.dir.entries gate.counter (change_in_doubt d)) idle guarded.tied
+  tied = subst (λ (d : Option DoubtedChange). IsTied store knows gate.dir.dir.entries gate.counter d) idle guarded.tied
 
   sits : IsReseated store (unmade slot) (new_seat store knows slot.number generation)
   sits =

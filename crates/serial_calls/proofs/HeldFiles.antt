@@ -6,13 +6,12 @@ use Rattle.std.proofs.lemmas.List.{get_or-set_other, get_or-set_same, get_or_pas
 use Rattle.crash_core.specs.EntryChanges.{file_put}
 use Rattle.serial_calls.specs.FileReserving.{given_back, holds_left}
 use Rattle.call_steps.specs.GuardedGates.{GuardedGateValue}
-use Rattle.call_steps.specs.Changes.{change_of}
 use Rattle.call_steps.specs.Gates.{LeavesHolds, doubt_left, file_in_doubt}
 use Rattle.call_steps.specs.Holds.{EndsHold, file_held, unless_file}
 use Rattle.call_steps.specs.declared.CommitEnd.{CommitEnd}
 use Rattle.call_steps.specs.declared.CommitEnd.TheVariants.{Doubtful, Dropped, Made, Spent}
 use Rattle.call_steps.specs.declared.EntryChange.{EntryChange}
-use Rattle.call_steps.specs.declared.Doubted.{Doubted}
+use Rattle.call_steps.specs.declared.DoubtedChange.{DoubtedChange}
 use Rattle.serial_calls.specs.HeldFiles.{HoldsForDoubt}
 use Rattle.serial_calls.proofs.CommittedCalls.{none_some, not_some}
 
@@ -21,7 +20,7 @@ pub record IsHeldAlone (session file : ℕ) (holds : List (Option ℕ)) : Type 0
   pub within : session < length holds
   pub only : (s f : ℕ) → file_held holds s ≡ Some f → (s ≡ session) × (f ≡ file)
 
-some_none : (d : Doubted) → None ≡ Some d → ⊥
+some_none : (d : DoubtedChange) → None ≡ Some d → ⊥
 some_none d e = cc
 
 same_some : (a b : ℕ) → Some a ≡ Some b → b ≡ a
@@ -65,7 +64,7 @@ module _ (session file : ℕ) where
   same_old old new same s f is = ap (λ (l : List (Option ℕ)). file_held l s) (sym same) ∙ is
 
   left_old : (change : EntryChange) (end : CommitEnd) (old new : List (Option ℕ)) → LeavesHolds change end old new → AreOld old new
-  left_old change (Made n) old new leaves = old_without (file_put (change_of change)) old new leaves
+  left_old change (Made n) old new leaves = old_without (file_put change) old new leaves
   left_old change (Dropped cause) old new leaves = same_old old new leaves
   left_old change (Doubtful n cause) old new leaves = same_old old new leaves
   left_old change Spent old new leaves = same_old old new leaves
@@ -84,13 +83,13 @@ module _ (session file : ℕ) where
         (λ f is. other (alone.only s f (are s f (sym (get_or-set_other holds session s None None other) ∙ is))).0)
   ]
 
-  given_doubt : (doubt : Option Doubted) (old holds : List (Option ℕ)) → IsHeldAlone session file old → AreOld old holds
-      → ((d : Doubted) → doubt ≡ Some d → file_in_doubt (Some d) ≡ Some file) → (s f : ℕ) → file_held (holds_left session doubt holds) s ≡ Some f → file_in_doubt doubt ≡ Some f
+  given_doubt : (doubt : Option DoubtedChange) (old holds : List (Option ℕ)) → IsHeldAlone session file old → AreOld old holds
+      → ((d : DoubtedChange) → doubt ≡ Some d → file_in_doubt (Some d) ≡ Some file) → (s f : ℕ) → file_held (holds_left session doubt holds) s ≡ Some f → file_in_doubt doubt ≡ Some f
   given_doubt None old holds alone are puts s f is = absurd (none_some f (sym (none_given old holds alone are s) ∙ is))
   given_doubt (Some d) old holds alone are puts s f is = puts d refl ∙ ap (λ (n : ℕ). Some n) (sym (alone.only s f (are s f is)).1)
 
   -- a commit that puts the file ended so
-  left_puts : (change : EntryChange) (end : CommitEnd) (doubt : Option Doubted) → doubt ≡ doubt_left change end → file_put (change_of change) ≡ Some file → (d : Doubted) → doubt ≡ Some d
+  left_puts : (change : EntryChange) (end : CommitEnd) (doubt : Option DoubtedChange) → doubt ≡ doubt_left change end → file_put change ≡ Some file → (d : DoubtedChange) → doubt ≡ Some d
       → file_in_doubt (Some d) ≡ Some file
   left_puts change (Doubtful n cause) doubt is put d some = ap file_in_doubt (sym some ∙ is) ∙ put
   left_puts change (Made n) doubt is put d some = absurd (some_none d (sym is ∙ some))
@@ -98,7 +97,7 @@ module _ (session file : ℕ) where
   left_puts change Spent doubt is put d some = absurd (some_none d (sym is ∙ some))
 
   pub committed_holds : {F R : Type 0} (behind : GuardedGateValue F R) (change : EntryChange) (end : CommitEnd) (old : List (Option ℕ)) → IsHeldAlone session file old
-      → LeavesHolds change end old behind.gate.holds → behind.gate.doubt ≡ doubt_left change end → file_put (change_of change) ≡ Some file → HoldsForDoubt (given_back session behind).gate
+      → LeavesHolds change end old behind.gate.holds → behind.gate.doubt ≡ doubt_left change end → file_put change ≡ Some file → HoldsForDoubt (given_back session behind).gate
   committed_holds behind change end old alone leaves doubt put =
       given_doubt behind.gate.doubt old behind.gate.holds alone (left_old change end old behind.gate.holds leaves) (left_puts change end behind.gate.doubt doubt put)
 

@@ -9,11 +9,10 @@ use Rattle.call_steps.specs.GateServed.{IsUnserved, Precedes}
 use Rattle.call_steps.specs.GateServed.Precedes.{HeldUp, Misused, Ruled}
 use Rattle.call_steps.specs.GuardedGates.{GuardedGateValue}
 use Rattle.rpmb_card.specs.Port.{PortState}
-use Rattle.call_steps.specs.Changes.{change_of}
 use Rattle.call_steps.specs.Gates.{GateValue, file_in_doubt}
 use Rattle.call_steps.specs.Holds.{EndsHold, file_held, unless_file}
 use Rattle.call_steps.specs.Resolving.{ResolvesHolds}
-use Rattle.call_steps.specs.declared.Doubted.{Doubted}
+use Rattle.call_steps.specs.declared.DoubtedChange.{DoubtedChange}
 use Rattle.call_steps.specs.declared.Resolved.{Resolved}
 use Rattle.call_steps.specs.declared.Resolved.TheVariants.{Dropped, Landed}
 use Rattle.core_laws.specs.Stores.{Store}
@@ -47,12 +46,12 @@ module _ {F R : Type 0} (of_file : F → FileState) (of_port : R → PortState) 
   same_holds : (old mid : GuardedGateValue F R) → mid ≡ old → KeepsHolds old.gate mid.gate
   same_holds old mid same = alike_holds old.gate mid.gate (ap (λ (g : GuardedGateValue F R). g.gate.holds) same) (ap (λ (g : GuardedGateValue F R). g.gate.doubt) same)
 
-  resolved_holds : (nonce : List ℕ) (d : Doubted) (old mid : GuardedGateValue F R) (how : Resolved) → old.gate.doubt ≡ Some d → HasResolved of_file of_port nonce d old mid (Ok how)
+  resolved_holds : (nonce : List ℕ) (d : DoubtedChange) (old mid : GuardedGateValue F R) (how : Resolved) → old.gate.doubt ≡ Some d → HasResolved of_file of_port nonce d old mid (Ok how)
       → KeepsHolds old.gate mid.gate
   resolved_holds nonce d old mid how was r held s f is =
-      absurd (freed (file_put (change_of d.change)) old.gate.holds mid.gate.holds (ends how r.holds) (λ s f is. ap file_in_doubt (sym was) ∙ held s f is) s f is)
+      absurd (freed (file_put d.change) old.gate.holds mid.gate.holds (ends how r.holds) (λ s f is. ap file_in_doubt (sym was) ∙ held s f is) s f is)
     where
-      ends : (h : Resolved) → ResolvesHolds d (Ok h) old.gate.holds mid.gate.holds → EndsHold (file_put (change_of d.change)) old.gate.holds mid.gate.holds
+      ends : (h : Resolved) → ResolvesHolds d (Ok h) old.gate.holds mid.gate.holds → EndsHold (file_put d.change) old.gate.holds mid.gate.holds
       ends (Landed n) e = e
       ends (Dropped n) e = e
 

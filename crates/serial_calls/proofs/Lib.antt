@@ -31,6 +31,7 @@ pub mod Tried
 pub mod Answered
 pub mod CommittableNames
 pub mod NameMoves
+pub mod NewObjects
 pub mod ClearSlots
 pub mod FreshSeats
 pub mod CreateToldCalls

@@ -18,7 +18,7 @@ use Rattle.history_seats.specs.Records.{Version}
 use Rattle.history_seats.specs.Views.{GateView}
 use Rattle.call_steps.specs.Commits.{IsCalm}
 use Rattle.call_steps.specs.KnownMachine.{KnowsMachine}
-use Rattle.call_steps.specs.GuardedGates.{GateInvariant, change_in_doubt}
+use Rattle.call_steps.specs.GuardedGates.{GateInvariant}
 use Rattle.call_steps.specs.ReplyLaws.{told_record}
 use Rattle.call_steps.specs.declared.Closing.{Closing}
 use Rattle.call_steps.proofs.AnswerMoves.{here-matches}
@@ -67,7 +67,7 @@ module _ {F R E : Type 0} (store : Store) (gate : GateValue F R) (knows : GateVi
     mapped = (guarded.journal.in_step scenario answered).now
 
     fact : IsEntryFact store.keys scenario (given_version store.mounted knows.all) (entries_at store knows.all).now here e
-    fact = (tied_tell store scenario knows gate.dir.dir.entries gate.counter (change_in_doubt gate.doubt) guarded.tied are answered mapped).facts.each index e held
+    fact = (tied_tell store scenario knows gate.dir.dir.entries gate.counter gate.doubt guarded.tied are answered mapped).facts.each index e held
 
     tagged : IsTagged here s.number call reply Unchanged (Some e.file)
     tagged =

@@ -15,7 +15,8 @@ use Rattle.app_quota.proofs.SessionLimits.{other_calls_are_within, own_calls_joi
 use Rattle.call_steps.specs.CallerSessions.{CallerSession, IsCallerOf, session_value}
 use Rattle.call_steps.specs.Foreseen.{IsEarly}
 use Rattle.call_steps.specs.Forecasts.{IsForecastAt}
-use Rattle.call_steps.specs.Seen.{Continues}
+use Rattle.call_steps.specs.SessionEvents.{Appends, IsWaiting}
+use Rattle.call_steps.specs.declared.PlacedReply.{PlacedReply}
 use Rattle.core_laws.specs.Answered.{AreAnswered, IsAnsweredAt}
 use Rattle.core_laws.specs.Given.{DiffersInBytes}
 use Rattle.core_laws.specs.Sessions.{Extends}
@@ -52,14 +53,15 @@ app-there store scenario records session =
     ((replays_keep_own_handles (start_under store scenario) records (new_own (store.mounted).applications)).same ∙ new-apps (store.mounted).applications)
 
 -- A VIEW THAT GOES ON
-module _ {E : Type 0} (store : Store) (was now : CallerSession E) (number : now.number ≡ was.number) (limits : Limits) (kept : HasKeptLimits store limits was) where
-  -- a session whose view goes on
-  pub continued-kept : Continues was now → HasKeptLimits store limits now
-  continued-kept c pass is scenario answered =
+module _ {E : Type 0} (store : Store) (was now : CallerSession E) (limits : Limits) (kept : HasKeptLimits store limits was) where
+  -- a session that has no event more
+  waiting-kept : IsWaiting store was now → HasKeptLimits store limits now
+  waiting-kept w pass is scenario answered =
+      let c = w.goes_on.continues in
       let same : c.now ≡ pass = some_same c.now pass (sym c.has ∙ is) in
       let whole : pass.knows.seen ≡ c.was.knows.seen ++ c.between = ap (λ (p : Sight PassView). p.knows.seen) (sym same) ∙ sym c.is in
       let before : AreAnswered store scenario c.was.knows.seen = answered-front store scenario c.was.knows.seen c.between (subst (AreAnswered store scenario) whole answered) in
-      subst (λ (x : ℕ × List HistoryRecord). AreOwnWithin x.0 limits (start_under store scenario) x.1) (λ i. (sym number i, sym whole i))
+      subst (λ (x : ℕ × List HistoryRecord). AreOwnWithin x.0 limits (start_under store scenario) x.1) (λ i. (sym w.number i, sym whole i))
       (own_calls_join was.number limits (start_under store scenario) c.was.knows.seen c.between (kept c.was c.had scenario before)
       (quiet_sessions_are_within was.number limits _ c.between c.none))
 
@@ -67,17 +69,20 @@ module _ {E : Type 0} (store : Store) (was now : CallerSession E) (number : now.
   module _ (event : Event) (place : ℕ) (e : Extends store (session_value was) (session_value now) event place)
       (fine : (scenario : TamperScenario) → AreAnswered store scenario ((e.old.knows.seen ++ e.between) ++ e.last ∷ [])
       → IsOwnWithin was.number limits (replay_at store scenario (e.old.knows.seen ++ e.between)) e.last.event (file_of e.last)) where
-    pub extended-kept : HasKeptLimits store limits now
+    extended-kept : HasKeptLimits store limits now
     extended-kept pass is scenario answered =
         let same : e.new ≡ pass = some_same e.new pass (sym e.is ∙ is) in
         let front : List HistoryRecord = e.old.knows.seen ++ e.between in
         let whole : pass.knows.seen ≡ front ++ e.last ∷ [] = ap (λ (p : Sight PassView). p.knows.seen) (sym same) ∙ e.extends in
         let all : AreAnswered store scenario (front ++ e.last ∷ []) = subst (AreAnswered store scenario) whole answered in
         let before : AreAnswered store scenario e.old.knows.seen = answered-front store scenario e.old.knows.seen e.between (answered-front store scenario front (e.last ∷ []) all) in
-        subst (λ (x : ℕ × List HistoryRecord). AreOwnWithin x.0 limits (start_under store scenario) x.1) (λ i. (sym number i, sym whole i))
+        subst (λ (x : ℕ × List HistoryRecord). AreOwnWithin x.0 limits (start_under store scenario) x.1) (λ i. (sym e.number i, sym whole i))
         (own_calls_join was.number limits (start_under store scenario) front (e.last ∷ [])
         (own_calls_join was.number limits (start_under store scenario) e.old.knows.seen e.between (kept e.old e.was scenario before) (quiet_sessions_are_within was.number limits _ e.between e.none_between))
         (fine scenario all, tt))
+
+pub waiting-limits : {E : Type 0} (store : Store) (limit : Totals) (was now : CallerSession E) → IsWaiting store was now → KeepsLimits store limit was now
+waiting-limits store limit was now w limits is kept = waiting-kept store was now limits kept w
 
 reply_same : (a b : ℕ) (c : Call) (r : Reply) (m : Mark) (a' b' : ℕ) (c' : Call) (r' : Reply) (m' : Mark) → CallEvent a b c r m ≡ CallEvent a' b' c' r' m' → r ≡ r'
 reply_same a b c r m a' b' c' r' m' e = cc (e)
@@ -93,8 +98,13 @@ undiffering (NotAvailable cause) other early differs = differs
 undiffering reply other early differs = absurd (cc (early))
 
 -- ONE EVENT MORE
-module _ {E : Type 0} (store : Store) (limit : Totals) (was now : CallerSession E) (number : now.number ≡ was.number) (call : Call) (reply : Reply) (mark : Mark) (place : ℕ)
-    (e : Extends store (session_value was) (session_value now) (CallEvent was.number was.made call reply mark) place) where
+module _ {E : Type 0} (store : Store) (limit : Totals) (was now : CallerSession E) (call : Call) (answer : PlacedReply) (mark : Mark) (a : Appends store was now call answer mark) where
+  abbrev reply : Reply
+  reply = answer.reply
+
+  abbrev e : Extends store (session_value was) (session_value now) (CallEvent was.number was.made call reply mark) answer.place
+  e = a.extends
+
   abbrev front : List HistoryRecord
   front = e.old.knows.seen ++ e.between
 
@@ -102,7 +112,7 @@ module _ {E : Type 0} (store : Store) (limit : Totals) (was now : CallerSession 
       → ((scenario : TamperScenario) → AreAnswered store scenario (front ++ e.last ∷ []) → IsWithin limits (replay_at store scenario front) (CallEvent was.number was.made call reply mark) (file_of e.last))
       → HasKeptLimits store limits was → HasKeptLimits store limits now
   answered-kept limits fine kept =
-      extended-kept store was now number limits kept (CallEvent was.number was.made call reply mark) place e
+      extended-kept store was now limits kept (CallEvent was.number was.made call reply mark) answer.place e
       (λ scenario answered. subst (λ (event : Event). IsOwnWithin was.number limits (replay_at store scenario front) event (file_of e.last)) (sym e.event_is) (λ same. fine scenario answered))
 
   -- of a call that may not grow an object

@@ -16,14 +16,17 @@ use Rattle.call_steps.specs.ObjectCommits.{CommitsGate, IsCommitted}
 use Rattle.rpmb_card.specs.Port.{PortState}
 use Rattle.call_steps.specs.Causes.{EndCause, counts}
 use Rattle.call_steps.specs.Counts.{EndCounts}
+use Rattle.call_steps.specs.GateEnds.{mark_told}
 use Rattle.call_steps.specs.declared.CommitEnd.{CommitEnd}
 use Rattle.call_steps.specs.declared.EntryChange.{EntryChange}
+use Rattle.store_model.specs.declared.event.Mark.TheVariants.{Unchanged}
 use Rattle.core_laws.specs.Stores.{Store}
 use Rattle.tee_types.specs.declared.call.Call.{Call}
 use Rattle.tee_types.specs.declared.reply.Cause.TheVariants.{Fault}
 use Rattle.tee_types.specs.declared.reply.Device.TheVariants.{Entropy, File}
 use Rattle.tee_types.specs.declared.reply.Reply.TheVariants.{NotAvailable}
 use Rattle.tee_types.specs.declared.reply.Reply.{Reply}
+use Rattle.call_steps.proofs.GoingOn.{appends-drawn}
 
 -- Where the object could not be loaded, nothing was drawn.
 pub told_changes : (old new : FileState) (number : ℕ) (Reliable : Type 0) (drew draws : ℕ) → draws ≡ drew → (reply : Reply) → HasToldCause old new number reply
@@ -59,9 +62,7 @@ module _ {F R E : Type 0} (store : Store) (old new : GuardedGateValue F R) (numb
   pub served_drawn : IsServed store old new (record was { entropy = entropy }) now number call answer → IsServed store old new was now number call answer
   served_drawn x = record {
     place = x.place;
-    extends = x.extends;
-    whole = x.whole;
-    made = x.made;
+    appends = appends-drawn store was now entropy call answer Unchanged x.appends;
     last = x.last;
     event = x.event;
     tagged = x.tagged;
@@ -111,10 +112,7 @@ module _ {F R E : Type 0} (of_file : F → FileState) (of_port : R → PortState
       end = x.end;
       reply = x.reply;
       place = x.place;
-      extends = x.extends;
-      whole = x.whole;
-      number = x.number;
-      made = x.made;
+      appends = appends-drawn store was now entropy call answer (mark_told x.end) x.appends;
       last = x.last;
       event = x.event;
       tagged = x.tagged;

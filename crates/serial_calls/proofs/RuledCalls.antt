@@ -1,6 +1,6 @@
 -- A call on an object that the rules answered, as a call that is served.
-use Rattle.std.proofs.Common.{◌≡◌, ℕ, List, Ok, refl, ap, inl}
-use Rattle.call_steps.specs.JournalCalls.{alone_record}
+use Rattle.std.proofs.Common.{◌≡◌, ℕ, List, Ok, refl, ap, inl, None}
+use Rattle.history_seats.specs.Changes.{call_record}
 use Rattle.call_steps.specs.CallerSessions.{CallerSession}
 use Rattle.call_rules.specs.Plain.{IsPlain}
 use Rattle.disk_model.specs.State.{FileState}
@@ -30,11 +30,9 @@ unfoldable pub ruled_appends : {F R E : Type 0} (store : Store) (old new : Guard
     → AppendsCall store old new was now call answer
 ruled_appends store old new was now call answer s = record {
   mark = Unchanged;
-  extends = s.extends;
-  whole = s.caller;
-  made = s.made;
+  appends = s.appends;
   place = s.place;
-  last = alone_record was.number was.made call answer.reply;
+  last = call_record was.number was.made call answer.reply Unchanged None;
   event = refl;
   tagged = λ file is. absurd (none_some file is);
   all = ap (λ (k : GateView). k.all) s.knows;

@@ -10,7 +10,7 @@ use Rattle.history_seats.specs.Views.{GateView}
 use Rattle.call_steps.specs.GuardedGates.{GuardedGateValue}
 use Rattle.rpmb_card.specs.Port.{PortState}
 use Rattle.call_steps.specs.Gates.{GateValue}
-use Rattle.call_steps.specs.declared.Doubted.{Doubted}
+use Rattle.call_steps.specs.declared.DoubtedChange.{DoubtedChange}
 use Rattle.call_steps.specs.declared.Resolved.{Resolved}
 use Rattle.call_steps.specs.declared.Resolved.TheVariants.{Dropped, Landed}
 use Rattle.store_model.specs.Record.{events_of}
@@ -49,7 +49,7 @@ module _ {F R : Type 0} (of_file : F → FileState) (of_port : R → PortState) 
       (ap (λ (g : GuardedGateValue F R). of_file g.gate.dir.file) same)
       (same_port_goes_on key (of_port old.gate.host.port) (of_port mid.gate.host.port) (ap (λ (g : GuardedGateValue F R). of_port g.gate.host.port) same))
 
-  card_goes_on : (nonce : List ℕ) (d : Doubted) (old mid : GuardedGateValue F R) (result : Result Resolved Cause) → HasResolved of_file of_port nonce d old mid result
+  card_goes_on : (nonce : List ℕ) (d : DoubtedChange) (old mid : GuardedGateValue F R) (result : Result Resolved Cause) → HasResolved of_file of_port nonce d old mid result
       → PortGoesOn key (of_port old.gate.host.port) (of_port mid.gate.host.port)
   card_goes_on nonce d old mid result r = record {
     told = λ card has. (card, record { told = r.card ∙ has.told; keyed = has.keyed });
@@ -60,7 +60,7 @@ module _ {F R : Type 0} (of_file : F → FileState) (of_port : R → PortState) 
     arms = exchanged_arms (of_port old.gate.host.port) (of_port mid.gate.host.port) _ _ r.answered.exchanged;
   }
 
-  resolved_settles : (nonce : List ℕ) (d : Doubted) (old mid : GuardedGateValue F R) (how : Resolved) → HasResolved of_file of_port nonce d old mid (Ok how) → Settles old mid
+  resolved_settles : (nonce : List ℕ) (d : DoubtedChange) (old mid : GuardedGateValue F R) (how : Resolved) → HasResolved of_file of_port nonce d old mid (Ok how) → Settles old mid
   resolved_settles nonce d old mid (Landed n) r = record {
     landed = Some n;
     events = ap (λ (k : GateView). events_of k.all) r.knows ∙ events_more old.journal.knows.all (landing_of n);

@@ -30,8 +30,8 @@ use Rattle.call_steps.specs.Devices.{AccusesRightly, CostsDoubt, Devices, Device
 use Rattle.call_steps.specs.Slots.{AreSlots}
 use Rattle.serial_calls.specs.ServeReplay.{ServesObject}
 use Rattle.call_steps.specs.Rising.{Serving, devices_in}
-use Rattle.call_steps.specs.Seen.{GoesOn}
-use Rattle.call_steps.proofs.GoingOn.{goes-drawn}
+use Rattle.call_steps.specs.SessionEvents.{IsWaiting}
+use Rattle.call_steps.proofs.GoingOn.{waits-drawn}
 use Rattle.call_steps.proofs.CountGrowth.{same_file_goes_on, same_port_goes_on}
 use Rattle.serial_calls.proofs.SlotLists.{file_changed, files_go_on, slots_after}
 
@@ -56,13 +56,8 @@ quiet_holds old new same held = subst (λ (g : GateValue _ _). HoldsForDoubt g) 
 -- A session that was shown the history is as before, where it is the same.
 pub none_appended : {F R E : Type 0} (store : Store) (old new : GuardedGateValue F R) (was now : CallerSession E) → IsCallerOf store was → new.journal.knows.all ≡ old.journal.knows.all
     → now ≡ record was { entropy = now.entropy } → AppendsNone store old new was now
-none_appended store old new was now caller same session = record {
-  all = same;
-  whole = subst (IsCallerOf store) (sym session) (record { session = caller.session; doubt = caller.doubt });
-  number = ap (λ (s : CallerSession _). s.number) session;
-  made = ap (λ (s : CallerSession _). s.made) session;
-  goes_on = subst (GoesOn store was) (sym session) (goes-drawn store was now.entropy caller);
-}
+none_appended store old new was now caller same session =
+    record { all = same; waits = subst (IsWaiting store was) (sym session) (waits-drawn store was now.entropy caller) }
 
 pub same_gate : {F R : Type 0} (old new : GateValue F R) → new ≡ old → new ≡ record old { open_handles = new.open_handles }
 same_gate old new same = subst (λ (g : GateValue _ _). g ≡ record old { open_handles = g.open_handles }) (sym same) refl
@@ -72,9 +67,7 @@ pub told_appends : {F R E : Type 0} (store : Store) (old new : GuardedGateValue 
     → IsServed store old new was now file call answer → AppendsCall store old new was now call answer
 told_appends store old new was now file object call answer s = record {
   mark = Unchanged;
-  extends = s.extends;
-  whole = s.whole;
-  made = s.made;
+  appends = s.appends;
   place = s.place;
   last = s.last;
   event = s.event;

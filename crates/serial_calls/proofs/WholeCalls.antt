@@ -1,13 +1,13 @@
 -- A served call, from a commit in doubt to its answer.
 use Rattle.std.proofs.Common.{◌≡◌, ◌+◌, ◌++◌, ◌∷◌, ◌⊎◌, [], ℕ, true, List, Err, Ok, Result, Some, length, refl, sym, ap, ◌∙◌, subst, inl, inr}
 use Rattle.std.proofs.lemmas.List.{length-map}
-use Rattle.call_steps.specs.CallerSessions.{CallerSession, IsCallerOf, session_value}
+use Rattle.call_steps.specs.CallerSessions.{CallerSession}
 use Rattle.disk_model.specs.Calls.{GoesOn as FileGoesOn}
 use Rattle.disk_model.specs.Faults.{Rose}
 use Rattle.disk_model.specs.State.{FileState}
 use Rattle.disk_model.proofs.Goings.{goes_on_none}
 use Rattle.call_steps.specs.Resolved.{HasResolved, StaysInDoubt}
-use Rattle.call_steps.specs.Seen.{ExtendsBack, GoesOn}
+use Rattle.call_steps.specs.SessionEvents.{Appends, IsWaiting}
 use Rattle.call_steps.specs.GateServed.{IsServedAlone, IsUnserved, Precedes}
 use Rattle.call_steps.specs.GateServed.Precedes.{HeldUp, Misused, Ruled}
 use Rattle.history_seats.specs.Records.{HistoryRecord}
@@ -21,13 +21,12 @@ use Rattle.rpmb_host.specs.Honest.{HasCard}
 use Rattle.call_steps.specs.CardCauses.{IsOfFrame}
 use Rattle.call_steps.specs.Heard.{HeardCause}
 use Rattle.call_steps.specs.Gates.{DoubtStands, GateValue, gate_sides}
-use Rattle.call_steps.specs.declared.Doubted.{Doubted}
+use Rattle.call_steps.specs.declared.DoubtedChange.{DoubtedChange}
 use Rattle.store_model.specs.Files.{is_misuse}
 use Rattle.store_model.specs.Record.{events_of}
 use Rattle.store_model.specs.declared.event.Event.TheVariants.{Call as CallEvent}
 use Rattle.store_model.specs.declared.event.Mark.{Mark}
 use Rattle.store_model.specs.declared.event.Mark.TheVariants.{Doubtful, Made, Unchanged}
-use Rattle.core_laws.specs.Sessions.{Extends}
 use Rattle.core_laws.specs.Stores.{Store}
 use Rattle.tee_types.specs.declared.call.Call.{Call}
 use Rattle.tee_types.specs.declared.reply.Cause.{Cause}
@@ -43,7 +42,7 @@ use Rattle.serial_calls.specs.ServeReplay.{ServesObject}
 use Rattle.call_steps.specs.Rising.{Serving, devices_in}
 use Rattle.call_steps.proofs.Cards.{doubted_counts}
 use Rattle.call_steps.proofs.HeardAnswers.{answered_heard}
-use Rattle.call_steps.proofs.GoingOn.{goes-then}
+use Rattle.call_steps.proofs.GoingOn.{appends-then, waits-then}
 use Rattle.call_steps.proofs.CountGrowth.{counts_grow, devices_go_on_then, grows_rose, grows_twice}
 use Rattle.call_steps.proofs.MoreRecords.{events_more, tagged_more}
 use Rattle.serial_calls.proofs.ServeSettling.{Settles, reserved_settles, same_settles, settled_settles, stays_settles, was_settles}
@@ -83,34 +82,24 @@ length_events records = sym (length-map records (λ (r : HistoryRecord). r.event
 
 module _ {F R E : Type 0} (of_file : F → FileState) (of_port : R → PortState) (draws : E → ℕ) (store : Store) (old mid new : GuardedGateValue F R) (was now : CallerSession E) (settled : Settles of_file of_port (card_key store) old mid) where
   -- the call's event follows the landing
-  appends_goes_on : (shown : CallerSession E) (call : Call) (answer : PlacedReply) → shown.number ≡ was.number → shown.made ≡ was.made → ExtendsBack store was shown
-      → AppendsCall store mid new shown now call answer → GoesOnWith store old new was now call answer
-  appends_goes_on shown call answer number made goes_on a = record {
+  appends_goes_on : (shown : CallerSession E) (call : Call) (answer : PlacedReply) → shown.number ≡ was.number → shown.made ≡ was.made
+      → (a : AppendsCall store mid new shown now call answer) → Appends store was now call answer a.mark → GoesOnWith store old new was now call answer
+  appends_goes_on shown call answer number made a appends = record {
     landed = settled.landed;
     mark = a.mark;
-    extends = goes_on (session_value now) (CallEvent was.number was.made call answer.reply a.mark) answer.place
-        (subst (λ (p : ℕ × ℕ). Extends store (session_value shown) (session_value now) (CallEvent p.0 p.1 call answer.reply a.mark) answer.place) (λ i. (number i, made i)) a.extends);
-    whole = a.whole;
-    made = a.made ∙ ap (λ (n : ℕ). n + 1) made;
+    appends = appends;
     place = a.place ∙ length_events mid.journal.knows.all ∙ ap length settled.events;
     events = ap (λ (l : List HistoryRecord). events_of l) a.all ∙ events_more mid.journal.knows.all a.last
         ∙ (λ i. settled.events i ++ (a.event ∙ ap (λ (p : ℕ × ℕ). CallEvent p.0 p.1 call answer.reply a.mark) (λ j. (number j, made j))) i ∷ []);
   }
 
   -- no event more
-  none_goes_on : IsCallerOf store now → now.number ≡ was.number → now.made ≡ was.made → GoesOn store was now → new.journal.knows.all ≡ mid.journal.knows.all → GoesOnWithout store old new was now
-  none_goes_on whole number made goes_on all = record {
-    landed = settled.landed;
-    whole = whole;
-    number = number;
-    made = made;
-    goes_on = goes_on;
-    events = ap (λ (l : List HistoryRecord). events_of l) all ∙ settled.events;
-  }
+  none_goes_on : IsWaiting store was now → new.journal.knows.all ≡ mid.journal.knows.all → GoesOnWithout store old new was now
+  none_goes_on waits all = record { landed = settled.landed; waits = waits; events = ap (λ (l : List HistoryRecord). events_of l) all ∙ settled.events }
 
 -- A call that was left to an object's file.
 module _ {F R E : Type 0} (of_file : F → FileState) (of_port : R → PortState) (draws : E → ℕ) (store : Store) (old mid new : GuardedGateValue F R) (slots after : List SlotValue) (was shown now : CallerSession E)
-    (settled : Settles of_file of_port (card_key store) old mid) (settled_held : KeepsHolds old.gate mid.gate) (drawn : Grows (draws was.entropy) (draws shown.entropy)) (number : shown.number ≡ was.number) (made : shown.made ≡ was.made) (goes_on : GoesOn store was shown) where
+    (settled : Settles of_file of_port (card_key store) old mid) (settled_held : KeepsHolds old.gate mid.gate) (drawn : Grows (draws was.entropy) (draws shown.entropy)) (waits : IsWaiting store was shown) where
   abbrev d0 : Devices
   d0 = devices_in of_file of_port draws (record { gate = old; slots = slots; session = was })
 
@@ -134,7 +123,8 @@ module _ {F R E : Type 0} (of_file : F → FileState) (of_port : R → PortState
   unfolding appends_goes_on
   object_serves call X (Ok answer) s = record {
     answers = record {
-      goes_on = appends_goes_on of_file of_port draws store old mid new was now settled shown call answer number made goes_on.extends s.answers.appends;
+      goes_on = appends_goes_on of_file of_port draws store old mid new was now settled shown call answer waits.number waits.made s.answers.appends
+          (appends-then store was shown now waits call answer s.answers.appends.mark s.answers.appends.appends);
       accuses = accuses_since (card_key store) d0 dm da began answer.reply s.answers.accuses;
       costs = costs_since (card_key store) d0 dm da began s.answers.appends.mark answer.reply s.answers.costs;
     };
@@ -145,8 +135,7 @@ module _ {F R E : Type 0} (of_file : F → FileState) (of_port : R → PortState
     devices = devices_go_on_then (card_key store) d0 dm da began s.devices;
   }
   object_serves call X (Err e) s = record {
-    answers = none_goes_on of_file of_port draws store old mid new was now settled s.answers.whole (s.answers.number ∙ number) (s.answers.made ∙ made)
-        (goes-then store was shown now number goes_on s.answers.goes_on) s.answers.all;
+    answers = none_goes_on of_file of_port draws store old mid new was now settled (waits-then store was shown now waits s.answers.waits) s.answers.all;
     slots = s.slots;
     tagged = λ files. subst AreOfObjectFiles (sym s.answers.all) (settled.tagged files);
     held = λ held. s.held (settled_held held);
@@ -179,7 +168,7 @@ module _ {F R E : Type 0} (of_file : F → FileState) (of_port : R → PortState
   }
 
   -- why a commit is in doubt still: a card that is told with the key would have one of the two counters
-  doubted_none : (d : Doubted) → old.gate.doubt ≡ Some d
+  doubted_none : (d : DoubtedChange) → old.gate.doubt ≡ Some d
       → ((card : CardState) → HasCard (of_port old.gate.host.port) old.gate.host.key card → (card.counter ≡ old.gate.counter) ⊎ (card.counter ≡ old.gate.counter + 1) → ⊥)
       → TellsNoCard (of_port first.gate.host.port) (card_key store)
   doubted_none d was none card has =
@@ -196,7 +185,7 @@ module _ {F R E : Type 0} (of_file : F → FileState) (of_port : R → PortState
   frame_accuses (Fault device count) is none heard = absurd is
 
   -- the frame that the read of the counter heard
-  doubt_heard : (between : GuardedGateValue F R) (cause : Cause) (nonce : List ℕ) (d : Doubted) → HasResolved of_file of_port nonce d old between (Err cause)
+  doubt_heard : (between : GuardedGateValue F R) (cause : Cause) (nonce : List ℕ) (d : DoubtedChange) → HasResolved of_file of_port nonce d old between (Err cause)
       → new.gate ≡ record between.gate { open_handles = new.gate.open_handles } → IsOfHeard (card_key store) (of_port new.gate.host.port) cause
   doubt_heard between cause nonce d read same =
       let key : old.gate.host.key ≡ card_key store = ap (λ (g : GateValue F R). g.host.key) ready ∙ keyed in
@@ -242,7 +231,7 @@ module _ {F R E : Type 0} (of_file : F → FileState) (of_port : R → PortState
       let a : AppendsCall store s.between new was now call answer = ruled_appends store s.between new was now call answer s.served in
       record {
         answers = record {
-          goes_on = appends_goes_on of_file of_port draws store first s.between new was now settled was call answer refl refl (λ end event place x. x) a;
+          goes_on = appends_goes_on of_file of_port draws store first s.between new was now settled was call answer refl refl a a.appends;
           accuses = precedes_accuses s.between answer.reply s.precedes s.served.gate;
           costs = tt;
         };
@@ -263,10 +252,10 @@ module _ {F R E : Type 0} (of_file : F → FileState) (of_port : R → PortState
       ])
 
   -- the gate as memory ran out
-  pub none_serves : AreSlots slots → (call : Call) (X : Type 0) (e : X) → Settles of_file of_port (card_key store) first new → KeepsHolds first.gate new.gate → IsCallerOf store now → now.number ≡ was.number → now.made ≡ was.made → GoesOn store was now
+  pub none_serves : AreSlots slots → (call : Call) (X : Type 0) (e : X) → Settles of_file of_port (card_key store) first new → KeepsHolds first.gate new.gate → IsWaiting store was now
       → ServesCall of_file of_port draws {X = X} store from to call (Err e)
-  none_serves are call X e settled held caller number made goes_on = record {
-    answers = none_goes_on of_file of_port draws store first new new was now settled caller number made goes_on refl;
+  none_serves are call X e settled held waits = record {
+    answers = none_goes_on of_file of_port draws store first new new was now settled waits refl;
     slots = are;
     tagged = settled.tagged;
     held = held;
@@ -278,4 +267,4 @@ module _ {F R E : Type 0} (of_file : F → FileState) (of_port : R → PortState
   unserved_serves are call X e u =
       none_serves are call X e (unserved_settles u)
       (λ held. unserved_holds of_file of_port Reliable (draws was.entropy) (draws now.entropy) store old new was now u (room_holds first.gate old.gate ready held))
-      u.caller u.number u.made u.goes_on
+      u.waits

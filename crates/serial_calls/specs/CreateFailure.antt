@@ -2,11 +2,10 @@
 use Rattle.std.specs.Prelude.{None, Option, Some, ℕ, ◌≡◌}
 use Rattle.call_steps.specs.AnswerServed.{IsServed}
 use Rattle.call_steps.specs.CallerSessions.{CallerSession}
+use Rattle.serial_calls.specs.ChangeCauses.{AccusesDevice}
 use Rattle.serial_calls.specs.declared.create_failure.CreateFailure.{CreateFailure}
 use Rattle.serial_calls.specs.declared.create_failure.CreateFailure.TheVariants.{Failed, Spent}
-use Rattle.disk_model.specs.Faults.{Rose}
 use Rattle.disk_model.specs.State.{FileState}
-use Rattle.htree_file.specs.Answers.{FileFailed, FilePassed}
 use Rattle.call_steps.specs.GuardedGates.{GuardedGateValue}
 use Rattle.call_steps.specs.declared.PlacedReply.{PlacedReply}
 use Rattle.call_steps.specs.declared.SlotFault.{SlotFault}
@@ -15,7 +14,6 @@ use Rattle.rpmb_card.specs.Protocol.{last_counter}
 use Rattle.store_model.specs.Record.{file_at_fault}
 use Rattle.core_laws.specs.Stores.{Store}
 use Rattle.tee_types.specs.declared.call.Call.{Call}
-use Rattle.tee_types.specs.declared.reply.Cause.{Cause}
 use Rattle.tee_types.specs.declared.reply.Cause.TheVariants.{Fault}
 use Rattle.tee_types.specs.declared.reply.Device.TheVariants.{Entropy, File}
 use Rattle.tee_types.specs.declared.reply.Reply.{Reply}
@@ -42,13 +40,8 @@ pub record IsToldUnmade {F R E : Type 0} (store : Store) (old new : GuardedGateV
   pub state : now.state ≡ was.state
 
 -- The reply carries the count of the device that failed, which is the one that rose; or the card's counter is at its end, and nothing was
--- tried. A generator that never fails is not accused. The file counted faults from `old` to `new`, and the generator from `drew` to `draws`.
-abbrev pub DeviceCause : (file : ℕ) → (old new : FileState) → (Reliable : Type 0) → (drew draws : ℕ) → Cause → Type 0
-DeviceCause file old new Reliable drew draws (Fault (File n) count) = (n ≡ file) × FileFailed old new count × (draws ≡ drew)
-DeviceCause file old new Reliable drew draws (Fault Entropy count) = FilePassed old new × Rose drew draws × (count ≡ draws) × (Reliable → ⊥)
-DeviceCause file old new Reliable drew draws cause = ⊥
-
+-- tried. The file counted faults from `old` to `new`, and the generator from `drew` to `draws`.
 abbrev pub UnmadeCause : (counter file : ℕ) → (old new : FileState) → (Reliable : Type 0) → (drew draws : ℕ) → Reply → Type 0
-UnmadeCause counter file old new Reliable drew draws (NotAvailable cause) = DeviceCause file old new Reliable drew draws cause
+UnmadeCause counter file old new Reliable drew draws (NotAvailable cause) = AccusesDevice old new file Reliable drew draws cause
 UnmadeCause counter file old new Reliable drew draws (CounterSpent last) = (last ≡ last_counter) × (counter ≡ last_counter) × (new ≡ old) × (draws ≡ drew)
 UnmadeCause counter file old new Reliable drew draws reply = ⊥

@@ -4,7 +4,7 @@ use Rattle.crash_core.specs.EntryLists.{IsUnnamed}
 use Rattle.call_steps.specs.GuardedGates.{GuardedGateValue}
 use Rattle.call_steps.specs.Gates.{GateValue}
 use Rattle.call_steps.specs.Holds.{file_held}
-use Rattle.call_steps.specs.declared.Doubted.{Doubted}
+use Rattle.call_steps.specs.declared.DoubtedChange.{DoubtedChange}
 use Rattle.tee_types.specs.Limits.{IsObjectFile}
 
 -- The session holds that object's file, which no entry names.
@@ -19,7 +19,7 @@ abbrev pub released : (session : ℕ) → List (Option ℕ) → List (Option ℕ
 released session holds = slice_set holds session None
 
 -- the session's hold ends, unless a commit is in doubt
-abbrev pub holds_left : (session : ℕ) → Option Doubted → List (Option ℕ) → List (Option ℕ)
+abbrev pub holds_left : (session : ℕ) → Option DoubtedChange → List (Option ℕ) → List (Option ℕ)
 holds_left session None holds = released session holds
 holds_left session (Some d) holds = holds
 

@@ -60,12 +60,12 @@ pub use Rattle.call_steps.specs.ReadyEntries
 pub use Rattle.call_steps.specs.Rising
 pub use Rattle.call_steps.specs.Rulings
 pub use Rattle.call_steps.specs.Seen
+pub use Rattle.call_steps.specs.SessionEvents
 pub use Rattle.call_steps.specs.SessionViews
 pub use Rattle.core_laws.specs.Sessions
 pub use Rattle.core_laws.specs.Shown
 pub use Rattle.call_steps.specs.SlotCalls
 pub use Rattle.call_steps.specs.SlotCatchUp
-pub use Rattle.call_steps.specs.SlotInside
 pub use Rattle.call_steps.specs.SlotValues
 pub use Rattle.call_steps.specs.Slots
 pub use Rattle.core_laws.specs.Decodings

@@ -1,7 +1,7 @@
 -- What making a new object leaves of its slot, and why it is not made.
 use Rattle.std.specs.Prelude.{Err, List, Ok, Result, ℕ, ◌≡◌}
 use Rattle.serial_calls.specs.Clearing.{IsClearSlot}
-use Rattle.serial_calls.specs.CreateFailure.{DeviceCause}
+use Rattle.serial_calls.specs.ChangeCauses.{AccusesDevice}
 use Rattle.serial_calls.specs.declared.create_failure.CreateFailure.{CreateFailure}
 use Rattle.serial_calls.specs.declared.create_failure.CreateFailure.TheVariants.{Failed, Spent}
 use Rattle.dir_records.specs.declared.entry.DirEntry.{DirEntry}
@@ -58,7 +58,7 @@ MakesOrNot store slot app attributes bytes (Err none) = IsClearSlot store slot
 -- `draws`. Else none failed.
 abbrev pub MakingCause : (file : ℕ) → (old new : FileState) → (Reliable : Type 0) → (drew draws : ℕ) → Result RootRef CreateFailure → Type 0
 MakingCause file old new Reliable drew draws (Ok root) = FilePassed old new × (draws ≡ drew)
-MakingCause file old new Reliable drew draws (Err (Failed cause)) = DeviceCause file old new Reliable drew draws cause
+MakingCause file old new Reliable drew draws (Err (Failed cause)) = AccusesDevice old new file Reliable drew draws cause
 MakingCause file old new Reliable drew draws (Err Spent) = ⊥
 
 abbrev pub MakingCauseOrNot : {A : Type 0} → (file : ℕ) → (old new : FileState) → (Reliable : Type 0) → (drew draws : ℕ) → Result (Result RootRef CreateFailure) A → Type 0

@@ -1,5 +1,5 @@
 -- A create that the rules of calls let pass.
-use Rattle.std.specs.Prelude.{List, Option, false, length, true, ℕ, ◌≡◌, ◌≤◌}
+use Rattle.std.specs.Prelude.{List, [], Option, false, length, true, ℕ, ◌≡◌, ◌≤◌}
 use Rattle.call_rules.specs.Matches.{Matches}
 use Rattle.call_rules.specs.Places.{IsNewPlace}
 use Rattle.call_rules.specs.declared.decision.NewPlace.{NewPlace}
@@ -24,6 +24,11 @@ pub record NewObject : Type 0 where
 
 abbrev pub create_call : NewObject → Call
 create_call new = Create new.id new.flags new.attributes new.bytes
+
+-- what that create asks for; of any other call, nothing
+abbrev pub new_object : Call → NewObject
+new_object (Create id flags attributes bytes) = record { id = id; flags = flags; attributes = attributes; bytes = bytes }
+new_object _ = record { id = []; flags = record { bits = 0 }; attributes = []; bytes = [] }
 
 abbrev pub IsCreate : Call → Type 0
 IsCreate (Create id flags attributes bytes) = Unit {0}

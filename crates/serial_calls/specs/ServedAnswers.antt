@@ -1,23 +1,22 @@
 -- What a served call is answered, and what it leaves of the history: at most the landing of the commit that was in doubt, and then the call.
-use Rattle.std.specs.Prelude.{Err, Ok, Option, Result, [], length, true, ℕ, ◌+◌, ◌++◌, ◌∷◌, ◌≡◌}
-use Rattle.call_steps.specs.CallerSessions.{CallerSession, IsCallerOf, session_value}
+use Rattle.std.specs.Prelude.{Err, Ok, Option, Result, [], length, true, ℕ, ◌++◌, ◌∷◌, ◌≡◌, None}
+use Rattle.store_model.specs.declared.event.Mark.TheVariants.{Unchanged}
+use Rattle.call_steps.specs.CallerSessions.{CallerSession}
 use Rattle.disk_model.specs.State.{FileState}
-use Rattle.call_steps.specs.Seen.{GoesOn}
+use Rattle.call_steps.specs.SessionEvents.{Appends, IsWaiting}
 use Rattle.hmac_keys.specs.KeyTable.{rpmb_key}
 use Rattle.call_steps.specs.declared.PlacedReply.{PlacedReply}
 use Rattle.call_steps.specs.GuardedGates.{GuardedGateValue}
 use Rattle.rpmb_card.specs.Port.{PortState}
 use Rattle.call_steps.specs.Devices.{AccusesRightly, CostsDoubt, DevicesGoOn}
-use Rattle.call_steps.specs.JournalCalls.{alone_record}
 use Rattle.call_steps.specs.Slots.{AreOfObjectFiles, AreSlots}
 use Rattle.call_steps.specs.Rising.{Serving, devices_in}
 use Rattle.call_steps.specs.EventCounts.{events_at, landing_events}
 use Rattle.store_model.specs.declared.event.Event.TheVariants.{Call as CallEvent}
 use Rattle.store_model.specs.declared.event.Mark.{Mark}
 use Rattle.store_model.specs.Files.{is_misuse}
-use Rattle.history_seats.specs.Changes.{with_record}
+use Rattle.history_seats.specs.Changes.{with_record, call_record}
 use Rattle.serial_calls.specs.HeldFiles.{KeepsHolds}
-use Rattle.core_laws.specs.Sessions.{Extends}
 use Rattle.core_laws.specs.Stores.{Store}
 use Rattle.tee_types.specs.declared.call.Call.{Call}
 
@@ -25,19 +24,14 @@ use Rattle.tee_types.specs.declared.call.Call.{Call}
 pub record GoesOnWith {F R E : Type 0} (store : Store) (old new : GuardedGateValue F R) (was now : CallerSession E) (call : Call) (answer : PlacedReply) : Type 0 where
   pub landed : Option ℕ
   pub mark : Mark
-  pub extends : Extends store (session_value was) (session_value now) (CallEvent was.number was.made call answer.reply mark) answer.place
-  pub whole : IsCallerOf store now
-  pub made : now.made ≡ was.made + 1
+  pub appends : Appends store was now call answer mark
   pub place : answer.place ≡ length (events_at old ++ landing_events landed)
   pub events : events_at new ≡ (events_at old ++ landing_events landed) ++ CallEvent was.number was.made call answer.reply mark ∷ []
 
 -- The session has no event more; a commit in doubt may have landed.
 pub record GoesOnWithout {F R E : Type 0} (store : Store) (old new : GuardedGateValue F R) (was now : CallerSession E) : Type 0 where
   pub landed : Option ℕ
-  pub whole : IsCallerOf store now
-  pub number : now.number ≡ was.number
-  pub made : now.made ≡ was.made
-  pub goes_on : GoesOn store was now
+  pub waits : IsWaiting store was now
   pub events : events_at new ≡ events_at old ++ landing_events landed
 
 module _ {F R E : Type 0} (of_file : F → FileState) (of_port : R → PortState) (draws : E → ℕ) where
@@ -75,7 +69,7 @@ module _ {F R E : Type 0} where
     pub let_be : AreLetBe old new
     pub misuse : is_misuse answer.reply ≡ true
     pub place : answer.place ≡ length old.gate.journal.knows.all
-    pub knows : new.gate.journal.knows ≡ with_record (alone_record old.session.number old.session.made call answer.reply) old.gate.journal.knows
+    pub knows : new.gate.journal.knows ≡ with_record (call_record old.session.number old.session.made call answer.reply Unchanged None) old.gate.journal.knows
 
   -- That, or memory ran out before anything was done.
   abbrev pub AnswersAtOnce : {X : Type 0} → (old new : Serving F R E) → Call → Result PlacedReply X → Type 0

@@ -51,23 +51,7 @@ pub(crate) fn serve_object<F: StoreFile + Drop, R: RpmbPort + Drop, L: StoreName
         (record { gate = gate.new; slots = slots.new.items; session = session.new }) }
 {
     match call {
-        Call::Create {
-            id,
-            flags,
-            attributes,
-            bytes,
-        } => create(
-            alloc,
-            gate,
-            slots,
-            storage_key,
-            session,
-            call,
-            *id,
-            *flags,
-            attributes,
-            bytes,
-        ),
+        Call::Create { .. } => create(alloc, gate, slots, storage_key, session, call),
         Call::Open { id, flags } => open(alloc, gate, slots, storage_key, session, *id, *flags),
         Call::Read { handle, size } => {
             read(alloc, gate, slots, storage_key, session, *handle, *size)
@@ -127,14 +111,13 @@ pub fn serve<F: StoreFile + Drop, R: RpmbPort + Drop, L: StoreName, E: Entropy>(
         (record { gate = gate.old; slots = slots.old.items; session = session.old })
         (record { gate = gate.new; slots = slots.new.items; session = session.new }) call.now result }
 {
-    // Tells how the gate and the card stand to each other.
-    let _doubt = gate.doubt();
+    gate.reveal_invariant();
     gate.reserve()?;
     if let Some(answer) = answer_alone(alloc, gate, session, call)? {
         return Ok(answer);
     }
     // A landing may have taken of that room.
     gate.reserve()?;
-    let _settled = gate.doubt();
+    gate.reveal_invariant();
     serve_object(alloc, gate, slots, storage_key, session, call)
 }

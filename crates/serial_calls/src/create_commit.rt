@@ -1,7 +1,6 @@
 //! How a create ends at the gate.
 
 ghost use Rattle.std.specs.Prelude.{◌≡◌, ◌≤◌, ◌<◌, length, None, IfSome, IsSome};
-ghost use Rattle.tee_types.specs.declared.call.Call.TheVariants.{Create};
 ghost use Rattle.rpmb_card.specs.Protocol.{last_counter};
 ghost use Rattle.call_steps.specs.Commits.{IsCalm};
 ghost use Rattle.call_steps.specs.Fits.{FitsGate, SeesWhole};
@@ -11,13 +10,14 @@ ghost use Rattle.call_steps.specs.Devices.{DrawsOn};
 ghost use Rattle.serial_calls.specs.CreateEnds.{IsCommittableAs, IsCommittableOrSpent, IsFinished, MayTellIfUnmade};
 ghost use Rattle.serial_calls.specs.ObjectMaking.{IsMadeOrClear, IsMadeSlot, entry_by};
 ghost use Rattle.serial_calls.specs.FileReserving.{IsReserved};
-ghost use Rattle.serial_calls.specs.Rules.{MayCreate};
+ghost use Rattle.serial_calls.specs.Rules.{IsCreate, MayCreate, new_object};
 ghost use Rattle.serial_calls.specs.Seating.{IsFreshSlot, reseated};
 
 use crate::create_failure::CreateFailure;
 use crate::create_object::give_up;
 use crate::create_replies::tell;
 use crate::create_seat::reseat;
+use crate::new_object::NewObject;
 use call_rules::NewPlace;
 use call_steps::{
     EntryChange, GuardedGate, PlacedReply, Session, SessionMove, Slot, commit_change,
@@ -28,7 +28,7 @@ use node_image::{FORMAT, RootRef};
 use rpmb_card::RpmbPort;
 use store_model::ObjectName;
 use tee_ports::{Entropy, StoreFile};
-use tee_types::{AppId, Bytes, Call, Flags, ObjectId, Reply};
+use tee_types::{AppId, Call, Reply};
 
 // The index of the entry that the new object takes.
 fn index_of(place: &NewPlace) -> u16
@@ -40,29 +40,27 @@ fn index_of(place: &NewPlace) -> u16
     }
 }
 
-// The entry of a new object in a slot's file, which that reference names there, of the generation of the slot's seat.
+// The entry of the new object of a create in a slot's file, which that reference names there, of the generation of the slot's seat.
 fn entry_of<F: StoreFile + Drop>(
     slot: &Slot<F>,
     app: AppId,
-    id: ObjectId,
+    object: &NewObject,
     root: RootRef,
-    attributes: &Bytes,
-    bytes: &Bytes,
 ) -> DirEntry
     requires seat { IsSome slot.now.seat }
-    requires short { length attributes.now ≤ 2048 }
-    requires few { length bytes.now ≤ 1044480 }
-    ensures { IfSome slot.now.seat (λ seat. result ≡ entry_by app id root slot.now.number seat.knows.generation (length attributes.now) (length bytes.now)) }
+    requires short { length object.now.attributes.now ≤ 2048 }
+    requires few { length object.now.bytes.now ≤ 1044480 }
+    ensures { IfSome slot.now.seat (λ seat. result ≡ entry_by app object.now.id root slot.now.number seat.knows.generation (length object.now.attributes.now) (length object.now.bytes.now)) }
 {
     let hash = root.hash;
     DirEntry {
         app,
-        id,
+        id: object.id,
         version: root.version,
         file: slot.number(),
         hash,
-        size: bytes.len() as u32,
-        attributes: attributes.len() as u16,
+        size: object.bytes.len() as u32,
+        attributes: object.attributes.len() as u16,
         format: FORMAT,
         generation: slot.generation(),
     }
@@ -75,10 +73,6 @@ fn commit_created<F: StoreFile + Drop, R: RpmbPort + Drop, L: StoreName, E: Entr
     session: &mut Session<E>,
     place: &NewPlace,
     call: Call,
-    id: ObjectId,
-    flags: Flags,
-    attributes: &Bytes,
-    bytes: &Bytes,
     root: RootRef,
 ) -> PlacedReply
     requires names { 1 ≤ gate.old.gate.room }
@@ -87,14 +81,14 @@ fn commit_created<F: StoreFile + Drop, R: RpmbPort + Drop, L: StoreName, E: Entr
     requires idle { gate.old.gate.doubt ≡ None }
     requires calm { IsCalm L.store gate.old.journal.knows session.old }
     requires may { MayCreate gate.old.gate.dir.dir.entries gate.old.gate.open_handles session.old.state
-        (record { id = id; flags = flags; attributes = attributes.now; bytes = bytes.now }) place.now }
+        (new_object call) place.now }
     requires reserved { IsReserved gate.old.gate session.old.number slot.old.number }
-    requires call { call ≡ Create id flags attributes.now bytes.now }
-    requires made { IsMadeSlot L.store slot.old session.old.state.application attributes.now bytes.now root }
+    requires create { IsCreate call }
+    requires made { IsMadeSlot L.store slot.old session.old.state.application (new_object call).attributes (new_object call).bytes root }
     requires fresh { IsFreshSlot L.store gate.old.journal.knows gate.old.gate.counter slot.old }
     requires low { gate.old.gate.counter < last_counter }
     ensures committable { IsCommittableAs F.state R.state L.store gate.old gate.new slot.old.number session.old session.new
-        (record { id = id; flags = flags; attributes = attributes.now; bytes = bytes.now }) place.now
+        (new_object call) place.now
         (E.is_reliable session.old.entropy) (E.faults session.old.entropy) (E.faults session.new.entropy) root result }
     ensures draws { DrawsOn E.is_reliable E.faults session.old.entropy session.new.entropy }
     ensures guarded { SlotInvariant L.store slot.new }
@@ -102,12 +96,13 @@ fn commit_created<F: StoreFile + Drop, R: RpmbPort + Drop, L: StoreName, E: Entr
     ensures number { slot.new.number ≡ slot.old.number }
     ensures file { slot.new.file ≡ slot.old.file }
 {
-    // Tells what always holds behind the lock.
-    let _doubt = gate.doubt();
+    gate.reveal_invariant();
     let app = session.app();
-    let entry = entry_of(slot, app, id, root, attributes, bytes);
+    let object = NewObject::of_call(&call);
+    let id = object.id;
+    let rights = object.flags.without_overwrite();
+    let entry = entry_of(slot, app, &object, root);
     let index = index_of(place);
-    let rights = flags.without_overwrite();
     let handle = session.state().next_handle();
     commit_change(
         gate,
@@ -128,10 +123,6 @@ fn finish_made<F: StoreFile + Drop, R: RpmbPort + Drop, L: StoreName, E: Entropy
     session: &mut Session<E>,
     place: &NewPlace,
     call: Call,
-    id: ObjectId,
-    flags: Flags,
-    attributes: &Bytes,
-    bytes: &Bytes,
     root: RootRef,
 ) -> PlacedReply
     requires names { 1 ≤ gate.old.gate.room }
@@ -140,12 +131,12 @@ fn finish_made<F: StoreFile + Drop, R: RpmbPort + Drop, L: StoreName, E: Entropy
     requires idle { gate.old.gate.doubt ≡ None }
     requires calm { IsCalm L.store gate.old.journal.knows session.old }
     requires may { MayCreate gate.old.gate.dir.dir.entries gate.old.gate.open_handles session.old.state
-        (record { id = id; flags = flags; attributes = attributes.now; bytes = bytes.now }) place.now }
+        (new_object call) place.now }
     requires reserved { IsReserved gate.old.gate session.old.number slot.old.number }
-    requires call { call ≡ Create id flags attributes.now bytes.now }
-    requires made { IsMadeSlot L.store slot.old session.old.state.application attributes.now bytes.now root }
+    requires create { IsCreate call }
+    requires made { IsMadeSlot L.store slot.old session.old.state.application (new_object call).attributes (new_object call).bytes root }
     ensures finished { IsCommittableOrSpent F.state R.state L.store (reseated L.store slot.old.number gate.old) gate.new slot.old.number session.old session.new
-        (record { id = id; flags = flags; attributes = attributes.now; bytes = bytes.now }) place.now
+        (new_object call) place.now
         (E.is_reliable session.old.entropy) (E.faults session.old.entropy) (E.faults session.new.entropy) root result }
     ensures draws { DrawsOn E.is_reliable E.faults session.old.entropy session.new.entropy }
     ensures guarded { SlotInvariant L.store slot.new }
@@ -157,9 +148,7 @@ fn finish_made<F: StoreFile + Drop, R: RpmbPort + Drop, L: StoreName, E: Entropy
 {
     if gate.counter() < u32::MAX {
         reseat(gate, slot);
-        return commit_created(
-            gate, slot, session, place, call, id, flags, attributes, bytes, root,
-        );
+        return commit_created(gate, slot, session, place, call, root);
     }
     give_up::<F, L>(slot);
     tell(gate, slot, session, call, CreateFailure::Spent)
@@ -177,10 +166,6 @@ pub fn finish<F: StoreFile + Drop, R: RpmbPort + Drop, L: StoreName, E: Entropy>
     session: &mut Session<E>,
     place: &NewPlace,
     call: Call,
-    id: ObjectId,
-    flags: Flags,
-    attributes: &Bytes,
-    bytes: &Bytes,
     made: Result<RootRef, CreateFailure>,
 ) -> PlacedReply
     requires names { 1 ≤ gate.old.gate.room }
@@ -189,13 +174,13 @@ pub fn finish<F: StoreFile + Drop, R: RpmbPort + Drop, L: StoreName, E: Entropy>
     requires idle { gate.old.gate.doubt ≡ None }
     requires calm { IsCalm L.store gate.old.journal.knows session.old }
     requires may { MayCreate gate.old.gate.dir.dir.entries gate.old.gate.open_handles session.old.state
-        (record { id = id; flags = flags; attributes = attributes.now; bytes = bytes.now }) place.now }
+        (new_object call) place.now }
     requires reserved { IsReserved gate.old.gate session.old.number slot.old.number }
-    requires call { call ≡ Create id flags attributes.now bytes.now }
-    requires made { IsMadeOrClear L.store slot.old session.old.state.application attributes.now bytes.now made }
+    requires create { IsCreate call }
+    requires made { IsMadeOrClear L.store slot.old session.old.state.application (new_object call).attributes (new_object call).bytes made }
     requires tells { MayTellIfUnmade gate.old.gate.counter slot.old.number made }
     ensures finished { IsFinished F.state R.state L.store (reseated L.store slot.old.number gate.old) gate.new slot.old.number session.old session.new
-        (record { id = id; flags = flags; attributes = attributes.now; bytes = bytes.now }) place.now
+        (new_object call) place.now
         (E.is_reliable session.old.entropy) (E.faults session.old.entropy) (E.faults session.new.entropy) made result }
     ensures draws { DrawsOn E.is_reliable E.faults session.old.entropy session.new.entropy }
     ensures guarded { SlotInvariant L.store slot.new }
@@ -206,9 +191,7 @@ pub fn finish<F: StoreFile + Drop, R: RpmbPort + Drop, L: StoreName, E: Entropy>
     ensures file { slot.new.file ≡ slot.old.file }
 {
     match made {
-        Ok(root) => finish_made(
-            gate, slot, session, place, call, id, flags, attributes, bytes, root,
-        ),
+        Ok(root) => finish_made(gate, slot, session, place, call, root),
         Err(why) => tell(gate, slot, session, call, why),
     }
 }

@@ -44,7 +44,7 @@ fn tell_fresh<F: StoreFile + Drop, R: RpmbPort + Drop, L: StoreName, E: Entropy>
     ensures number { slot.new.number ≡ slot.old.number }
     ensures file { slot.new.file ≡ slot.old.file }
 {
-    let _doubt = gate.doubt();
+    gate.reveal_invariant();
     let seat = slot.lend_seat();
     let (place, seat) = gate.answer_with(seat, session, call, why.reply());
     slot.give_seat(seat);

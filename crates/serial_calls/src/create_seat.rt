@@ -37,7 +37,7 @@ pub(crate) fn reseat<F: StoreFile + Drop, R: RpmbPort + Drop, L: StoreName>(
     ensures agreed { FitsGate gate.old.journal.knows slot.old }
     ensures fresh { IsFreshSlot L.store gate.new.journal.knows gate.new.gate.counter slot.new }
 {
-    let _doubt = gate.doubt();
+    gate.reveal_invariant();
     let generation = next_generation(gate.counter());
     let seat = slot.lend_seat();
     let seat = gate.reseat(seat, generation);

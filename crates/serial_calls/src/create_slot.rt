@@ -55,8 +55,7 @@ pub fn clear<F: StoreFile + Drop, R: RpmbPort + Drop, L: StoreName, E: Entropy>(
     ensures sees { SeesAll gate.new.journal.knows session.new.pass }
     ensures whole { IsCallerOf L.store session.new }
 {
-    // Tells what always holds behind the lock.
-    let _doubt = gate.doubt();
+    gate.reveal_invariant();
     let_go::<F, L>(slot);
     let seat = slot.lend_seat();
     let Some(seat) = gate.catch_up(Some(seat), session) else {

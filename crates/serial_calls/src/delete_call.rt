@@ -50,8 +50,7 @@ pub fn delete<F: StoreFile + Drop, R: RpmbPort + Drop, L: StoreName, E: Entropy>
 {
     let held = found.held;
     let entry = held.entry;
-    // Tells what always holds of the gate.
-    let _doubt = gate.doubt();
+    gate.reveal_invariant();
     catch_up_entry(gate, &mut slot.slot, session, &entry);
     // Nothing of a deleted object stays loaded.
     slot.slot.free();

@@ -47,8 +47,6 @@ pub fn answer_meant<F: StoreFile + Drop, R: RpmbPort + Drop, L: StoreName, E: En
     ensures entropy { session.new.entropy ≡ session.old.entropy }
 {
     catch_up_entry(gate, slot, session, entry);
-    // Tell what always holds of the gate.
-    let _doubt = gate.doubt();
-    let _counter = gate.counter();
+    gate.reveal_invariant();
     append(gate, slot, session, call, reply)
 }

@@ -20,7 +20,6 @@ pub(crate) fn place_of<F: StoreFile + Drop, R: RpmbPort + Drop, L: StoreName>(
     ensures place { result + 1 ≡ held.now.entry.file }
     ensures within { result < length slots.now.items }
 {
-    // Tells what always holds of the entries.
-    let _doubt = gate.doubt();
+    gate.reveal_invariant();
     usize::from(held.entry.file) - 1
 }

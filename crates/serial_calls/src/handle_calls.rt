@@ -6,9 +6,11 @@ ghost use Rattle.call_steps.specs.Rising.{devices_in};
 ghost use Rattle.serial_calls.specs.Unfailed.{NoneFailed};
 ghost use Rattle.hmac_keys.specs.KeyTable.{ssk};
 ghost use Rattle.serial_calls.specs.ServeReady.{IsReady};
+ghost use Rattle.serial_calls.specs.Rules.{IsCreate};
 ghost use Rattle.serial_calls.specs.ServeReplay.{ServesObject};
 
 use crate::file_slots::place_of;
+use crate::new_object::NewObject;
 use crate::ruled_calls::answer;
 use call_rules::Decision;
 use call_steps::{GuardedGate, GuardedSlot, PlacedReply, Session};
@@ -17,7 +19,7 @@ use hmac_keys::tsk;
 use rpmb_card::RpmbPort;
 use std::alloc::Global;
 use tee_ports::{Entropy, StoreFile};
-use tee_types::{Bytes, Call, Flags, NoMemory, ObjectId};
+use tee_types::{Call, Flags, NoMemory, ObjectId};
 
 /// TEE_OpenPersistentObject: the object of that identifier, with those flags.
 pub(crate) fn open<F: StoreFile + Drop, R: RpmbPort + Drop, L: StoreName, E: Entropy>(
@@ -55,7 +57,7 @@ pub(crate) fn open<F: StoreFile + Drop, R: RpmbPort + Drop, L: StoreName, E: Ent
     call_steps::open(alloc, gate, slot, session, &held, &key, id, flags)
 }
 
-/// TEE_CreatePersistentObject: an object of that identifier, with those flags, attributes and data. `call` is that call.
+/// TEE_CreatePersistentObject: `call` is a create.
 pub(crate) fn create<F: StoreFile + Drop, R: RpmbPort + Drop, L: StoreName, E: Entropy>(
     alloc: Global,
     gate: &mut GuardedGate<F, R, L>,
@@ -63,30 +65,35 @@ pub(crate) fn create<F: StoreFile + Drop, R: RpmbPort + Drop, L: StoreName, E: E
     storage_key: &[u8; 32],
     session: &mut Session<E>,
     call: &Call,
-    id: ObjectId,
-    flags: Flags,
-    attributes: &Bytes,
-    bytes: &Bytes,
 ) -> Result<PlacedReply, NoMemory>
     requires ready { IsReady R.state L.store gate.old slots.old.items session.old }
     requires few { length L.store.mounted.applications ≤ 16 }
     requires keyed { storage_key.now ≡ ssk L.store.keys.huk L.store.keys.chip }
-    requires call { call.now ≡ Call.Create id flags attributes.now bytes.now }
+    requires create { IsCreate call.now }
     ensures serves { ServesObject F.state R.state E.faults L.store
         (record { gate = gate.old; slots = slots.old.items; session = session.old })
-        (record { gate = gate.new; slots = slots.new.items; session = session.new }) (Call.Create id flags attributes.now bytes.now) result }
+        (record { gate = gate.new; slots = slots.new.items; session = session.new }) call.now result }
     ensures draws { DrawsOn E.is_reliable E.faults session.old.entropy session.new.entropy }
     ensures passed { OnErr result (NoneFailed (devices_in F.state R.state E.faults (record { gate = gate.old; slots = slots.old.items; session = session.old }))
         (devices_in F.state R.state E.faults (record { gate = gate.new; slots = slots.new.items; session = session.new }))) }
 {
-    let place = match call_rules::create(&*gate, session.state(), id, flags, attributes, bytes) {
+    let object = NewObject::of_call(call);
+    let decision = call_rules::create(
+        &*gate,
+        session.state(),
+        object.id,
+        object.flags,
+        object.attributes,
+        object.bytes,
+    );
+    let place = match decision {
         Decision::Answered(reply) => return answer(alloc, gate, slots, session, call, reply),
         Decision::Needs(place) => place,
     };
+    // The call for the event.
+    let kept = call.copy(alloc)?;
     let file = crate::reserve(gate, session);
     let key = tsk(storage_key, &session.app().bytes());
     let slot = &mut slots[usize::from(file) - 1];
-    crate::create(
-        alloc, gate, slot, session, &place, &key, id, flags, attributes, bytes,
-    )
+    crate::create(alloc, gate, slot, session, &place, &key, kept)
 }

@@ -74,8 +74,7 @@ fn serve_growing<F: StoreFile + Drop, R: RpmbPort + Drop, L: StoreName, E: Entro
     ensures passed { OnErr (answer_in result) (NoneFailed (devices_in F.state R.state E.faults (record { gate = gate.old; slots = slots.old.items; session = session.old }))
         (devices_in F.state R.state E.faults (record { gate = gate.new; slots = slots.new.items; session = session.new }))) }
 {
-    // Tells how the gate and the card stand to each other.
-    let _doubt = gate.doubt();
+    gate.reveal_invariant();
     gate.reserve()?;
     let forecast = match forecast(alloc, gate, session, call)? {
         Ok(forecast) => forecast,
@@ -86,7 +85,7 @@ fn serve_growing<F: StoreFile + Drop, R: RpmbPort + Drop, L: StoreName, E: Entro
     }
     // A landing may have taken of that room.
     gate.reserve()?;
-    let _settled = gate.doubt();
+    gate.reveal_invariant();
     let answer = serve_object(alloc, gate, slots, storage_key, session, call)?;
     Ok(QuotaOutcome::Answered(answer))
 }

@@ -88,8 +88,7 @@ pub fn rename<F: StoreFile + Drop, R: RpmbPort + Drop, L: StoreName, E: Entropy>
     if entry.app != app {
         return Err(NoMemory {});
     }
-    // Tells what always holds of the gate.
-    let _doubt = gate.doubt();
+    gate.reveal_invariant();
     catch_up_entry(gate, &mut slot.slot, session, &entry);
     Ok(commit_change(
         gate,

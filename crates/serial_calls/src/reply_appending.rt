@@ -34,8 +34,7 @@ pub(crate) fn append<F: StoreFile + Drop, R: RpmbPort + Drop, L: StoreName, E: E
     ensures whole { SeesWhole gate.new.journal.knows slot.new }
     ensures entropy { session.new.entropy ≡ session.old.entropy }
 {
-    // Tells what always holds of the gate.
-    let _doubt = gate.doubt();
+    gate.reveal_invariant();
     let seat = slot.lend_seat();
     let (reply, told) = twice(reply);
     let (place, seat) = gate.answer_with(seat, session, call, reply);

@@ -55,8 +55,7 @@ pub fn catch_up_staged<F: StoreFile + Drop, R: RpmbPort + Drop, L: StoreName, E:
     ensures whole { IsCallerOf L.store session.new }
     ensures stands { (scenario : TamperScenario) → AreAnswered L.store scenario gate.old.journal.knows.all → IsSessionAt (replay_at L.store scenario gate.old.journal.knows.all).state session.new }
 {
-    // Tells what always holds of the gate.
-    let _doubt = gate.doubt();
+    gate.reveal_invariant();
     let seat = slot.lend_seat();
     let Some(seat) = gate.catch_up(Some(seat), session) else {
         unreachable!()

@@ -10,7 +10,6 @@ ghost use Rattle.call_steps.specs.SessionMoves.{MayMove, moved_by};
 ghost use Rattle.call_steps.specs.Fits.{SeesWhole};
 ghost use Rattle.call_steps.specs.GuardedSlots.{SlotInvariant};
 ghost use Rattle.call_steps.specs.ObjectCommits.{IsCommittable, IsCommitted};
-ghost use Rattle.call_steps.specs.Changes.{change_of};
 ghost use Rattle.call_steps.specs.Devices.{DrawsOn};
 ghost use Rattle.tee_types.specs.declared.reply.Reply.TheVariants.{Done as DoneReply};
 
@@ -36,13 +35,13 @@ pub(crate) fn commit_stage<F: StoreFile + Drop, R: RpmbPort + Drop, L: StoreName
     step: SessionMove,
 ) -> PlacedReply
     requires committable { (versions : TagVersions)
-        × IsCommittable L.store gate.old.gate gate.old.journal.knows slot.old session.old call DoneReply (change_of (renewal held root size)) versions }
+        × IsCommittable L.store gate.old.gate gate.old.journal.knows slot.old session.old call DoneReply (renewal held root size) versions }
     requires idle { gate.old.gate.doubt ≡ None }
     requires names { 1 ≤ gate.old.gate.room }
     requires handles { 1 ≤ gate.old.gate.open_handles.spare }
     requires events { 1 ≤ gate.old.journal.spare }
     requires calm { IsCalm L.store gate.old.journal.knows session.old }
-    requires held { HoldsNewFile gate.old.gate.holds call (change_of (renewal held root size)) }
+    requires held { HoldsNewFile gate.old.gate.holds call (renewal held root size) }
     requires may { MayMove session.old.state step }
     requires moved { LeavesSession L.store gate.old.journal.knows session.old.number call (moved_by session.old.state step) }
     ensures committed { IsCommitted F.state R.state L.store gate.old gate.new slot.old.number session.old session.new call DoneReply (renewal held root size)

@@ -136,8 +136,7 @@ pub fn answer_truncate<F: StoreFile + Drop, R: RpmbPort + Drop, L: StoreName, E:
     ensures guarded { SlotInvariant L.store slot.new }
     ensures whole { SeesWhole gate.new.journal.knows slot.new }
 {
-    // Tells what always holds of the gate.
-    let _doubt = gate.doubt();
+    gate.reveal_invariant();
     let call = Call::Truncate { handle, size };
     match staged {
         Staged::Root(root) => {

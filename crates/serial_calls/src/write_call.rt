@@ -141,8 +141,7 @@ pub fn answer_write<F: StoreFile + Drop, R: RpmbPort + Drop, L: StoreName, E: En
     ensures guarded { SlotInvariant L.store slot.new }
     ensures whole { SeesWhole gate.new.journal.knows slot.new }
 {
-    // Tells what always holds of the gate.
-    let _doubt = gate.doubt();
+    gate.reveal_invariant();
     let start = found.handle.position;
     let end = start + bytes.len() as u32;
     let call = Call::Write { handle, bytes };

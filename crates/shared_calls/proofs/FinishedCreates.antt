@@ -28,7 +28,8 @@ use Rattle.serial_calls.specs.ServeReady.{KnowsCard}
 use Rattle.shared_calls.specs.SharedCounts.{CarriesDraws}
 use Rattle.shared_calls.specs.SharedCreate.{AccusesAtMost, CarriesMade, told_made}
 use Rattle.shared_calls.specs.Kept.{KeepsGate, KeepsSlot}
-use Rattle.shared_calls.specs.Attempts.{EndsAttempt, IsAnswered, IsWaiting}
+use Rattle.shared_calls.specs.Attempts.{EndsAttempt, IsAnswered}
+use Rattle.serial_calls.specs.SessionEvents.{IsWaiting}
 use Rattle.shared_calls.proofs.AnsweredSlots.{keeps-committable, keeps-served}
 use Rattle.shared_calls.proofs.CarriedAttempts.{carries-grown}
 use Rattle.shared_calls.proofs.CarriedDraws.{carries-committed}

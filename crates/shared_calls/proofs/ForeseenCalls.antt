@@ -13,7 +13,7 @@ use Rattle.serial_calls.specs.Stores.{Store}
 use Rattle.serial_calls.specs.declared.PlacedReply.{PlacedReply}
 use Rattle.store_model.specs.declared.event.Mark.TheVariants.{Unchanged}
 use Rattle.tee_types.specs.declared.call.Call.{Call}
-use Rattle.shared_calls.specs.Attempts.{IsWaiting}
+use Rattle.serial_calls.specs.SessionEvents.{IsWaiting}
 use Rattle.shared_calls.specs.ForeseenCalls.{EndsForecast}
 use Rattle.shared_calls.specs.Kept.{KeepsGate}
 use Rattle.shared_calls.specs.SharedCounts.{CarriesDraws}
@@ -33,7 +33,7 @@ module _ {F R E X : Type 0} (of_file : F → FileState) (of_port : R → PortSta
 
   pub ends-forecast : (result : Result (Result Forecast PlacedReply) X) → Foreseen result → EndsForecast store new.journal.knows was now call result
   ends-forecast (Ok (Ok forecast)) f = record {
-    waits = record { whole = f.left.calm.caller; number = f.left.number; made = f.left.made; goes_on = f.left.goes_on };
+    waits = f.left.waits;
     sees = f.left.calm.sees;
     calm = f.calm;
     within = f.left.calm.within;
@@ -41,14 +41,8 @@ module _ {F R E X : Type 0} (of_file : F → FileState) (of_port : R → PortSta
     place = f.place;
     told = f.told;
   }
-  ends-forecast (Ok (Err answer)) s =
-      let served = s.0.served in
-      record {
-        early = s.1;
-        answered = record { mark = Unchanged; extends = served.extends; whole = served.caller; number = served.number; made = served.made };
-        unchanged = refl;
-      }
-  ends-forecast (Err none) u = record { whole = u.caller; number = u.number; made = u.made; goes_on = u.goes_on }
+  ends-forecast (Ok (Err answer)) s = record { early = s.1; answered = record { mark = Unchanged; appends = s.0.served.appends }; unchanged = refl }
+  ends-forecast (Err none) u = u.waits
 
   -- what always holds of the gate, behind the making of room
   module _ (before : Devices) (first : GuardedGateValue F R) (ready : old.gate ≡ record first.gate { open_handles = old.gate.open_handles; room = old.gate.room }) (knows : old.journal.knows ≡ first.journal.knows)

@@ -122,7 +122,7 @@ module _ {F R : Type 0} (of_file : F → FileState) (of_port : R → PortState) 
         let a : AppendsCall store s.between new was now call answer = ruled_appends store s.between new was now call answer s.served in
         let goes_on = alone_goes_on of_file of_port draws store first old new [] was now ready knows Reliable drawn keyed stands s.between settled s.served.gate in
         keeps-call of_file of_port store before first new k goes_on.dir goes_on.card (file_in []) (file_in []) (draws was.entropy) (draws now.entropy) settled.landed was.number was.made call answer.reply a.mark
-        (subst (λ (n : ℕ). n < length store.mounted.applications) a.extends.number a.whole.session.known)
+        (subst (λ (n : ℕ). n < length store.mounted.applications) a.appends.extends.number a.appends.caller.session.known)
         (ap (λ (l : List HistoryRecord). events_of l) a.all ∙ events_more s.between.journal.knows.all a.last ∙ (λ i. settled.events i ++ a.event i ∷ [])
         ∙ append_assoc (events_at first) (landing_events settled.landed) (CallEvent was.number was.made call answer.reply a.mark ∷ []))
         (subst AreOfObjectFiles (sym a.all) (tagged_more s.between.journal.knows.all a.last a.tagged (settled.tagged k.tagged)))

@@ -61,7 +61,7 @@ module _ {F R : Type 0} (of_file : F → FileState) (of_port : R → PortState) 
 
   -- a call that was appended is of a session of the store
   pub known-session : {E : Type 0} (old new : GuardedGateValue F R) (was now : CallerSession E) (call : Call) (answer : PlacedReply) → AppendsCall store old new was now call answer → was.number < sessions
-  known-session old new was now call answer a = subst (λ (n : ℕ). n < sessions) a.extends.number a.whole.session.known
+  known-session old new was now call answer a = subst (λ (n : ℕ). n < sessions) a.appends.extends.number a.appends.caller.session.known
 
   module _ (old new : GuardedGateValue F R) (k : Keeps old) where
     abbrev dir_old : FileState

@@ -26,6 +26,7 @@ pub mod KeptSlots
 pub use Rattle.serial_calls.proofs.Cards
 pub use Rattle.serial_calls.proofs.CarriedCounts
 pub use Rattle.serial_calls.proofs.CountGrowth
+pub use Rattle.serial_calls.proofs.GoingOn
 pub use Rattle.serial_calls.proofs.Rises
 pub use Rattle.serial_calls.proofs.SameMaps
 pub use Rattle.serial_calls.proofs.Tellings

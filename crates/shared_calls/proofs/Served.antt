@@ -12,7 +12,7 @@ use Rattle.shared_calls.specs.Attempts.{IsAnswered}
 
 module _ {E F R : Type 0} (store : Store) (call : Call) (was now : CallerSession E) (answer : PlacedReply) (old new : GuardedGateValue F R) where
   pub slot-answers : (file : ℕ) → IsServed store old new was now file call answer → IsAnswered store was now call answer
-  slot-answers file s = record { mark = Unchanged; extends = s.extends; whole = s.whole; number = s.extends.number; made = s.made }
+  slot-answers file s = record { mark = Unchanged; appends = s.appends }
 
   pub ruled-answers : IsServedByRules store call answer old new was now → IsAnswered store was now call answer
-  ruled-answers s = record { mark = Unchanged; extends = s.extends; whole = s.caller; number = s.number; made = s.made }
+  ruled-answers s = record { mark = Unchanged; appends = s.appends }

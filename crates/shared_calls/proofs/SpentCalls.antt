@@ -22,7 +22,7 @@ use Rattle.tee_types.specs.declared.reply.Cause.TheVariants.{CardResult, Fault, 
 use Rattle.tee_types.specs.declared.reply.Device.TheVariants.{Card, Dir, Entropy, File}
 use Rattle.tee_types.specs.declared.reply.Reply.{Reply}
 use Rattle.tee_types.specs.declared.reply.Reply.TheVariants.{NotAvailable}
-use Rattle.shared_calls.specs.Attempts.{IsWaiting}
+use Rattle.serial_calls.specs.SessionEvents.{IsWaiting}
 use Rattle.shared_calls.specs.Kept.{KeepsSlot}
 use Rattle.shared_calls.specs.SharedChange.{OnlyReads}
 use Rattle.shared_calls.specs.SharedCounts.{CarriesDraws}
@@ -30,7 +30,7 @@ use Rattle.shared_calls.proofs.AnsweredSlots.{keeps-served}
 use Rattle.shared_calls.proofs.KeptAnswers.{told-rise}
 use Rattle.shared_calls.proofs.KeptSlots.{keeps-called, keeps-seen, own-file}
 use Rattle.shared_calls.proofs.SharedViews.{keeps-shown_slot, shown_slot}
-use Rattle.shared_calls.proofs.Waiting.{waits-same}
+use Rattle.serial_calls.proofs.GoingOn.{waits-same}
 
 -- a reply that the file gave accuses no generator
 pub told-undrawn : (from to : FileState) (number first last : ℕ) (reply : Reply) → HasToldCause from to number reply → CarriesDraws first last reply

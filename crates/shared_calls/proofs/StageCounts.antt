@@ -1,28 +1,15 @@
--- How the stage of a change counts the faults of the file and of the session's entropy, and what it leaves of the session.
+-- How the stage of a change counts the faults of the file and of the session's entropy.
 use Rattle.std.proofs.Common.{[], ℕ, Err, IfOk, Ok, Result, refl}
-use Rattle.serial_calls.specs.CallerSessions.{CallerSession, IsCallerOf}
 use Rattle.serial_calls.specs.ChangeCauses.{HasChangeCause, HasStageCause}
 use Rattle.serial_calls.specs.declared.stage_result.Staged.{Staged}
 use Rattle.serial_calls.specs.declared.stage_result.Staged.TheVariants.{Root, Unstaged}
 use Rattle.disk_model.specs.State.{FileState}
-use Rattle.serial_calls.specs.Stores.{Store}
 use Rattle.tee_types.specs.declared.reply.Reply.{Reply}
 use Rattle.serial_calls.specs.Devices.{AccusesRightly, Devices}
-use Rattle.serial_calls.proofs.GoingOn.{goes-drawn}
 use Rattle.serial_calls.proofs.ChangedCalls.{change_accuses_file}
 use Rattle.shared_calls.specs.SharedChange.{CarriesStaged}
 use Rattle.shared_calls.specs.Names.{no_devices}
-use Rattle.shared_calls.specs.Attempts.{IsWaiting}
 use Rattle.shared_calls.proofs.CarriedDraws.{carries-accused}
-
--- a session whose entropy drew waits still
-pub drawn-waits : {E : Type 0} (store : Store) (was : CallerSession E) (entropy : E) → IsCallerOf store was → IsWaiting store was (record was { entropy = entropy })
-drawn-waits store was entropy whole = record {
-  whole = record { session = whole.session; doubt = whole.doubt };
-  number = refl;
-  made = refl;
-  goes_on = goes-drawn store was entropy whole;
-}
 
 -- the devices of a stage: a file and the session's entropy
 abbrev pub of_stage : FileState → (draws : ℕ) → Devices

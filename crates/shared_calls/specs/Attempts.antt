@@ -1,29 +1,16 @@
 -- What a call leaves of its session while other threads serve theirs: nothing is said of the gate, which others change before and after.
-use Rattle.std.specs.Prelude.{Err, None, Ok, Option, Result, Some, ◌+◌, ◌≡◌}
-use Rattle.serial_calls.specs.CallerSessions.{CallerSession, IsCallerOf, session_value}
-use Rattle.serial_calls.specs.Seen.{GoesOn}
+use Rattle.std.specs.Prelude.{Err, None, Ok, Option, Result, Some}
+use Rattle.serial_calls.specs.CallerSessions.{CallerSession}
+use Rattle.serial_calls.specs.SessionEvents.{Appends, IsWaiting}
 use Rattle.serial_calls.specs.declared.PlacedReply.{PlacedReply}
-use Rattle.store_model.specs.declared.event.Event.TheVariants.{Call as CallEvent}
 use Rattle.store_model.specs.declared.event.Mark.{Mark}
-use Rattle.serial_calls.specs.Sessions.{Extends}
 use Rattle.serial_calls.specs.Stores.{Store}
 use Rattle.tee_types.specs.declared.call.Call.{Call}
 
--- The call stands in the history with what it was answered, at that place: it is the session's next event, and between the session's view
--- before and that place the session has none. The whole is fair.
+-- The call stands in the history with what it was answered, whatever its mark.
 pub record IsAnswered {E : Type 0} (store : Store) (was now : CallerSession E) (call : Call) (answer : PlacedReply) : Type 0 where
   pub mark : Mark
-  pub extends : Extends store (session_value was) (session_value now) (CallEvent was.number was.made call answer.reply mark) answer.place
-  pub whole : IsCallerOf store now
-  pub number : now.number ≡ was.number
-  pub made : now.made ≡ was.made + 1
-
--- The session has no event more. It may have been shown the history.
-pub record IsWaiting {E : Type 0} (store : Store) (was now : CallerSession E) : Type 0 where
-  pub whole : IsCallerOf store now
-  pub number : now.number ≡ was.number
-  pub made : now.made ≡ was.made
-  pub goes_on : GoesOn store was now
+  pub appends : Appends store was now call answer mark
 
 -- an attempt of a call ends with its answer, or has to be begun again; or memory ran out
 abbrev pub EndsAttempt : {E X : Type 0} → Store → (was now : CallerSession E) → Call → Result (Option PlacedReply) X → Type 0

@@ -10,7 +10,8 @@ use Rattle.serial_calls.specs.Stores.{Store}
 use Rattle.serial_calls.specs.declared.PlacedReply.{PlacedReply}
 use Rattle.store_model.specs.declared.event.Mark.TheVariants.{Unchanged}
 use Rattle.tee_types.specs.declared.call.Call.{Call}
-use Rattle.shared_calls.specs.Attempts.{IsAnswered, IsWaiting}
+use Rattle.shared_calls.specs.Attempts.{IsAnswered}
+use Rattle.serial_calls.specs.SessionEvents.{IsWaiting}
 
 module _ {E : Type 0} (store : Store) (gate : GateView) (was now : CallerSession E) (call : Call) where
   -- The session saw the whole history, of which no commit may land any more. The forecast is that of the call where it stands.

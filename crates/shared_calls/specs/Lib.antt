@@ -19,6 +19,7 @@ pub use Rattle.serial_calls.specs.Devices
 pub use Rattle.serial_calls.specs.EventCounts
 pub use Rattle.serial_calls.specs.GuardedGates
 pub use Rattle.serial_calls.specs.Rising
+pub use Rattle.serial_calls.specs.SessionEvents
 pub use Rattle.serial_calls.specs.SlotValues
 pub use Rattle.serial_calls.specs.QuotaCallers
 pub use Rattle.serial_calls.specs.Stores

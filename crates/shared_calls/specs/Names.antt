@@ -1,6 +1,6 @@
 -- What names the devices of a store, where nothing picks them.
 use Rattle.std.specs.Prelude.{[], None, false}
-use Rattle.serial_calls.specs.SlotInside.{no_file}
+use Rattle.disk_model.specs.State.{no_file}
 use Rattle.rpmb_card.specs.Arms.{no_arms}
 use Rattle.rpmb_card.specs.Port.{PortState}
 use Rattle.serial_calls.specs.Devices.{Devices}

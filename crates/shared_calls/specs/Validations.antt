@@ -6,7 +6,8 @@ use Rattle.serial_calls.specs.Stores.{Store}
 use Rattle.tee_types.specs.declared.call.Call.{Call}
 use Rattle.shared_calls.specs.declared.validation.Validation.{Validation}
 use Rattle.shared_calls.specs.declared.validation.Validation.TheVariants.{Retry, Answered, Found}
-use Rattle.shared_calls.specs.Attempts.{IsAnswered, IsWaiting}
+use Rattle.shared_calls.specs.Attempts.{IsAnswered}
+use Rattle.serial_calls.specs.SessionEvents.{IsWaiting}
 
 -- the call is answered, or waits still; or memory ran out
 abbrev pub EndsLook : {E T X : Type 0} → Store → (was now : CallerSession E) → Call → Result (Validation T) X → Type 0

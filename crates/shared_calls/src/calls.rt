@@ -63,14 +63,7 @@ pub fn file_of<F: StoreFile + Drop, R: RpmbPort + Drop, L: StoreName + DevicesNa
     ensures drawn { IfAnswered result (λ answer. CarriesDraws (E.faults session.old.entropy) (E.faults session.new.entropy) answer.reply) }
 {
     match call {
-        Call::Create {
-            id,
-            flags,
-            attributes,
-            bytes,
-        } => create_call::validate_for_file(
-            alloc, gate, session, call, *id, *flags, attributes, bytes,
-        ),
+        Call::Create { .. } => create_call::validate_for_file(alloc, gate, session, call),
         Call::Open { id, flags } => open_call::file_of(alloc, gate, session, *id, *flags),
         Call::Read { handle, size } => read_call::file_of(alloc, gate, session, *handle, *size),
         Call::Write { handle, bytes } => {
@@ -159,14 +152,9 @@ pub fn attempt<
     ensures spent { IsPartial call.now → IsSpent first.entry.value → OnlyReads slot.old.file slot.new.file session.old session.new }
 {
     match call {
-        Call::Create {
-            id,
-            flags,
-            attributes,
-            bytes,
-        } => create_call::attempt(
-            rt, alloc, first, gate, slot, key, session, call, *id, *flags, attributes, bytes,
-        ),
+        Call::Create { .. } => {
+            create_call::attempt(rt, alloc, first, gate, slot, key, session, call)
+        }
         Call::Open { id, flags } => {
             open_call::attempt(rt, alloc, first, gate, slot, key, session, *id, *flags)
         }

@@ -1,19 +1,19 @@
 //! TEE_CreatePersistentObject, with the gate's lock taken for each validation alone.
 
 ghost use Rattle.std.specs.Prelude.{◌≡◌, ◌≤◌, ℕ, length, true, IfOk, IfSome, IsNone, IsSome, OnErr, MatchResult, []};
-ghost use Rattle.tee_types.specs.declared.call.Call.TheVariants.{Create};
 ghost use Rattle.hmac_keys.specs.KeyTable.{ssk};
 ghost use Rattle.serial_calls.specs.GuardedSlots.{SlotInvariant};
 ghost use Rattle.serial_calls.specs.CallerSessions.{IsCallerOf};
 ghost use Rattle.serial_calls.specs.Clearing.{IsClearSlot};
 ghost use Rattle.serial_calls.specs.CreateEnds.{MayTellIfUnmade};
 ghost use Rattle.serial_calls.specs.FileReserving.{IsReserved};
-ghost use Rattle.serial_calls.specs.Rules.{MayCreate};
+ghost use Rattle.serial_calls.specs.Rules.{IsCreate, MayCreate, new_object};
 ghost use Rattle.serial_calls.specs.Devices.{DrawsOn, Grows};
 ghost use Rattle.shared_calls.specs.SharedCreate.{AccusesAtMost, HasMade, CarriesMade, told_made};
 ghost use Rattle.shared_calls.specs.Validations.{EndsLook, IfAnswered, IfFound};
 ghost use Rattle.shared_calls.specs.SharedReady.{IsReady};
-ghost use Rattle.shared_calls.specs.Attempts.{EndsAttempt, IsAnswered, IsWaiting};
+ghost use Rattle.shared_calls.specs.Attempts.{EndsAttempt, IsAnswered};
+ghost use Rattle.serial_calls.specs.SessionEvents.{IsWaiting};
 ghost use Rattle.shared_calls.specs.Kept.{KeepsSlot};
 ghost use Rattle.shared_calls.specs.SharedCounts.{CarriesDraws};
 
@@ -26,13 +26,13 @@ use hmac_keys::tsk;
 use node_image::RootRef;
 use rpmb_card::RpmbPort;
 use serial_calls::{
-    CreateFailure, GuardedSlot, PlacedReply, Session, Slot, StoreName, answer_ruled, clear, finish,
-    give_back, give_up, make_unless_spent, reserve,
+    CreateFailure, GuardedSlot, NewObject, PlacedReply, Session, Slot, StoreName, answer_ruled,
+    clear, finish, give_back, give_up, make_unless_spent, reserve,
 };
 use std::alloc::Global;
 use std::sync::{Mutex, MutexGuard, Wait};
 use tee_ports::{Entropy, StoreFile};
-use tee_types::{Bytes, Call, Flags, NoMemory, ObjectId};
+use tee_types::{Bytes, Call, NoMemory};
 
 // What the rules make of a Create at the gate: its answer, or the place of the entry of its object. `call` is that Create.
 fn rule<F: StoreFile + Drop, R: RpmbPort + Drop, L: StoreName + DevicesName, E: Entropy>(
@@ -40,17 +40,13 @@ fn rule<F: StoreFile + Drop, R: RpmbPort + Drop, L: StoreName + DevicesName, E: 
     gate: &mut SharedGate<F, R, L>,
     session: &mut Session<E>,
     call: &Call,
-    id: ObjectId,
-    flags: Flags,
-    attributes: &Bytes,
-    bytes: &Bytes,
 ) -> Result<Validation<NewPlace>, NoMemory>
     requires caller { IsCallerOf L.store session.old }
-    requires call { call.now ≡ Create id flags attributes.now bytes.now }
-    ensures ends { EndsLook L.store session.old session.new (Create id flags attributes.now bytes.now) result }
+    requires create { IsCreate call.now }
+    ensures ends { EndsLook L.store session.old session.new call.now result }
     ensures ready { IfFound result (λ place. IsReady L.store gate.new session.new) }
     ensures may { IfFound result (MayCreate gate.new.gate.dir.dir.entries gate.new.gate.open_handles session.new.state
-        (record { id = id; flags = flags; attributes = attributes.now; bytes = bytes.now })) }
+        (new_object call.now)) }
     ensures draws { DrawsOn E.is_reliable E.faults session.old.entropy session.new.entropy }
     ensures undrawn { IfFound result (λ place. E.faults session.new.entropy ≡ E.faults session.old.entropy) }
     ensures drawn { IfAnswered result (λ answer. CarriesDraws (E.faults session.old.entropy) (E.faults session.new.entropy) answer.reply) }
@@ -58,7 +54,16 @@ fn rule<F: StoreFile + Drop, R: RpmbPort + Drop, L: StoreName + DevicesName, E: 
     if let Some(answer) = begin(alloc, gate, session, call)? {
         return Ok(Validation::Answered(answer));
     }
-    match call_rules::create(&gate.gate, session.state(), id, flags, attributes, bytes) {
+    let object = NewObject::of_call(call);
+    let decision = call_rules::create(
+        &gate.gate,
+        session.state(),
+        object.id,
+        object.flags,
+        object.attributes,
+        object.bytes,
+    );
+    match decision {
         Decision::Answered(reply) => {
             let kept = call.copy(alloc)?;
             Ok(Validation::Answered(answer_ruled(&mut gate.gate, session, kept, reply)))
@@ -74,24 +79,20 @@ fn validate<F: StoreFile + Drop, R: RpmbPort + Drop, L: StoreName + DevicesName,
     gate: &mut SharedGate<F, R, L>,
     session: &mut Session<E>,
     call: &Call,
-    id: ObjectId,
-    flags: Flags,
-    attributes: &Bytes,
-    bytes: &Bytes,
 ) -> Result<Validation<NewPlace>, NoMemory>
     requires caller { IsCallerOf L.store session.old }
     requires few { length L.store.mounted.applications ≤ 16 }
-    requires call { call.now ≡ Create id flags attributes.now bytes.now }
-    ensures ends { EndsLook L.store session.old session.new (Create id flags attributes.now bytes.now) result }
+    requires create { IsCreate call.now }
+    ensures ends { EndsLook L.store session.old session.new call.now result }
     ensures ready { IfFound result (λ place. IsReady L.store gate.new session.new) }
     ensures may { IfFound result (MayCreate gate.new.gate.dir.dir.entries gate.new.gate.open_handles session.new.state
-        (record { id = id; flags = flags; attributes = attributes.now; bytes = bytes.now })) }
+        (new_object call.now)) }
     ensures draws { DrawsOn E.is_reliable E.faults session.old.entropy session.new.entropy }
     ensures undrawn { IfFound result (λ place. E.faults session.new.entropy ≡ E.faults session.old.entropy) }
     ensures drawn { IfAnswered result (λ answer. CarriesDraws (E.faults session.old.entropy) (E.faults session.new.entropy) answer.reply) }
 {
     let number = session.number();
-    let validated = rule(alloc, gate, session, call, id, flags, attributes, bytes);
+    let validated = rule(alloc, gate, session, call);
     give_back(&mut gate.gate, number);
     validated
 }
@@ -112,20 +113,16 @@ pub(crate) fn validate_for_file<
     gate: &mut SharedGate<F, R, L>,
     session: &mut Session<E>,
     call: &Call,
-    id: ObjectId,
-    flags: Flags,
-    attributes: &Bytes,
-    bytes: &Bytes,
 ) -> Result<Validation<u16>, NoMemory>
     requires caller { IsCallerOf L.store session.old }
     requires few { length L.store.mounted.applications ≤ 16 }
-    requires call { call.now ≡ Create id flags attributes.now bytes.now }
-    ensures ends { EndsLook L.store session.old session.new (Create id flags attributes.now bytes.now) result }
+    requires create { IsCreate call.now }
+    ensures ends { EndsLook L.store session.old session.new call.now result }
     ensures reserved { IfFound result (IsReserved gate.new.gate session.new.number) }
     ensures draws { DrawsOn E.is_reliable E.faults session.old.entropy session.new.entropy }
     ensures drawn { IfAnswered result (λ answer. CarriesDraws (E.faults session.old.entropy) (E.faults session.new.entropy) answer.reply) }
 {
-    match validate(alloc, gate, session, call, id, flags, attributes, bytes)? {
+    match validate(alloc, gate, session, call)? {
         Validation::Answered(answer) => Ok(Validation::Answered(answer)),
         Validation::Found(_place) => Ok(Validation::Found(reserve(&mut gate.gate, session))),
         Validation::Retry => Ok(Validation::Retry),
@@ -163,25 +160,21 @@ fn validate_first<F: StoreFile + Drop, R: RpmbPort + Drop, L: StoreName + Device
     slot: &mut Slot<F>,
     session: &mut Session<E>,
     call: &Call,
-    id: ObjectId,
-    flags: Flags,
-    attributes: &Bytes,
-    bytes: &Bytes,
 ) -> Result<Validation<u32>, NoMemory>
     requires caller { IsCallerOf L.store session.old }
     requires few { length L.store.mounted.applications ≤ 16 }
     requires guarded { SlotInvariant L.store slot.old }
-    requires call { call.now ≡ Create id flags attributes.now bytes.now }
+    requires create { IsCreate call.now }
     requires kept { KeepsSlot L.devices slot.old [] }
-    ensures ends { EndsLook L.store session.old session.new (Create id flags attributes.now bytes.now) result }
+    ensures ends { EndsLook L.store session.old session.new call.now result }
     ensures clear { IfFound result (λ counter. IsClearSlot L.store slot.new) }
-    ensures fits { IfFound result (λ counter. (length attributes.now ≤ 2048) × (length bytes.now ≤ 1044480)) }
+    ensures fits { IfFound result (λ counter. (length (new_object call.now).attributes ≤ 2048) × (length (new_object call.now).bytes ≤ 1044480)) }
     ensures guarded { SlotInvariant L.store slot.new }
     ensures draws { DrawsOn E.is_reliable E.faults session.old.entropy session.new.entropy }
     ensures kept { KeepsSlot L.devices slot.new [] }
     ensures drawn { IfAnswered result (λ answer. CarriesDraws (E.faults session.old.entropy) (E.faults session.new.entropy) answer.reply) }
 {
-    match validate(alloc, gate, session, call, id, flags, attributes, bytes)? {
+    match validate(alloc, gate, session, call)? {
         Validation::Answered(answer) => return Ok(Validation::Answered(answer)),
         Validation::Found(_place) => {}
         Validation::Retry => return Ok(Validation::Retry),
@@ -236,20 +229,16 @@ fn finish_slot<F: StoreFile + Drop, R: RpmbPort + Drop, L: StoreName + DevicesNa
     session: &mut Session<E>,
     place: &NewPlace,
     call: Call,
-    id: ObjectId,
-    flags: Flags,
-    attributes: &Bytes,
-    bytes: &Bytes,
     made: Result<RootRef, CreateFailure>,
 ) -> Option<PlacedReply>
     requires ready { IsReady L.store gate.old session.old }
     requires few { length L.store.mounted.applications ≤ 16 }
     requires may { MayCreate gate.old.gate.dir.dir.entries gate.old.gate.open_handles session.old.state
-        (record { id = id; flags = flags; attributes = attributes.now; bytes = bytes.now }) place.now }
-    requires call { call ≡ Create id flags attributes.now bytes.now }
-    requires made { HasMade L.store slot.old session.old.state.application attributes.now bytes.now made }
+        (new_object call) place.now }
+    requires create { IsCreate call }
+    requires made { HasMade L.store slot.old session.old.state.application (new_object call).attributes (new_object call).bytes made }
     requires kept { KeepsSlot L.devices slot.old (told_made slot.old.number made) }
-    ensures answered { IfSome result (IsAnswered L.store session.old session.new (Create id flags attributes.now bytes.now)) }
+    ensures answered { IfSome result (IsAnswered L.store session.old session.new call) }
     ensures waits { IsNone result → session.new ≡ session.old }
     ensures guarded { SlotInvariant L.store slot.new }
     ensures draws { DrawsOn E.is_reliable E.faults session.old.entropy session.new.entropy }
@@ -263,20 +252,8 @@ fn finish_slot<F: StoreFile + Drop, R: RpmbPort + Drop, L: StoreName + DevicesNa
         give_up::<F, L>(slot);
         return None;
     }
-    // Tells how the gate and the card stand to each other.
-    let _doubt = gate.gate.doubt();
-    let answer = finish(
-        &mut gate.gate,
-        slot,
-        session,
-        place,
-        call,
-        id,
-        flags,
-        attributes,
-        bytes,
-        made,
-    );
+    gate.gate.reveal_invariant();
+    let answer = finish(&mut gate.gate, slot, session, place, call, made);
     give_back(&mut gate.gate, number);
     Some(answer)
 }
@@ -288,24 +265,20 @@ fn validate_last<F: StoreFile + Drop, R: RpmbPort + Drop, L: StoreName + Devices
     slot: &mut Slot<F>,
     session: &mut Session<E>,
     call: Call,
-    id: ObjectId,
-    flags: Flags,
-    attributes: &Bytes,
-    bytes: &Bytes,
     made: Result<RootRef, CreateFailure>,
 ) -> Result<Option<PlacedReply>, NoMemory>
     requires caller { IsCallerOf L.store session.old }
     requires few { length L.store.mounted.applications ≤ 16 }
-    requires call { call ≡ Create id flags attributes.now bytes.now }
-    requires made { HasMade L.store slot.old session.old.state.application attributes.now bytes.now made }
+    requires create { IsCreate call }
+    requires made { HasMade L.store slot.old session.old.state.application (new_object call).attributes (new_object call).bytes made }
     requires kept { KeepsSlot L.devices slot.old (told_made slot.old.number made) }
-    ensures ends { EndsAttempt L.store session.old session.new (Create id flags attributes.now bytes.now) result }
+    ensures ends { EndsAttempt L.store session.old session.new call result }
     ensures guarded { SlotInvariant L.store slot.new }
     ensures draws { DrawsOn E.is_reliable E.faults session.old.entropy session.new.entropy }
     ensures kept { KeepsSlot L.devices slot.new [] }
     ensures drawn { (first : ℕ) → Grows first (E.faults session.old.entropy) → CarriesMade first (E.faults session.old.entropy) made → IfOk result (λ found. IfSome found (λ answer. CarriesDraws first (E.faults session.new.entropy) answer.reply)) }
 {
-    let place = match validate(alloc, gate, session, &call, id, flags, attributes, bytes) {
+    let place = match validate(alloc, gate, session, &call) {
         Ok(Validation::Found(place)) => place,
         Ok(Validation::Answered(answer)) => {
             give_up::<F, L>(slot);
@@ -320,9 +293,7 @@ fn validate_last<F: StoreFile + Drop, R: RpmbPort + Drop, L: StoreName + Devices
             return Err(none);
         }
     };
-    Ok(finish_slot(
-        gate, slot, session, &place, call, id, flags, attributes, bytes, made,
-    ))
+    Ok(finish_slot(gate, slot, session, &place, call, made))
 }
 
 // An attempt with the slot itself, which has a stage between the validations.
@@ -341,26 +312,20 @@ fn attempt_with_slot<
     storage_key: &[u8; 32],
     session: &mut Session<E>,
     call: &Call,
-    id: ObjectId,
-    flags: Flags,
-    attributes: &Bytes,
-    bytes: &Bytes,
 ) -> Result<Option<PlacedReply>, NoMemory>
     requires caller { IsCallerOf L.store session.old }
     requires few { length L.store.mounted.applications ≤ 16 }
-    requires call { call.now ≡ Create id flags attributes.now bytes.now }
+    requires create { IsCreate call.now }
     requires keyed { storage_key.now ≡ ssk L.store.keys.huk L.store.keys.chip }
     requires guarded { SlotInvariant L.store slot.old }
     requires kept { KeepsSlot L.devices slot.old [] }
-    ensures ends { EndsAttempt L.store session.old session.new (Create id flags attributes.now bytes.now) result }
+    ensures ends { EndsAttempt L.store session.old session.new call.now result }
     ensures guarded { SlotInvariant L.store slot.new }
     ensures draws { DrawsOn E.is_reliable E.faults session.old.entropy session.new.entropy }
     ensures kept { KeepsSlot L.devices slot.new [] }
     ensures drawn { IfOk result (λ found. IfSome found (λ answer. CarriesDraws (E.faults session.old.entropy) (E.faults session.new.entropy) answer.reply)) }
 {
-    let validated = validate_first(
-        alloc, &mut first, slot, session, call, id, flags, attributes, bytes,
-    )?;
+    let validated = validate_first(alloc, &mut first, slot, session, call)?;
     drop(first);
     let counter = match validated {
         Validation::Answered(answer) => return Ok(Some(answer)),
@@ -369,14 +334,15 @@ fn attempt_with_slot<
     };
     // The call for the event.
     let kept = call.copy(alloc)?;
+    let object = NewObject::of_call(call);
     let made = make_slot::<F, L, E>(
         alloc,
         counter,
         slot,
         storage_key,
         session,
-        attributes,
-        bytes,
+        object.attributes,
+        object.bytes,
     )?;
     validate_last(
         alloc,
@@ -384,10 +350,6 @@ fn attempt_with_slot<
         slot,
         session,
         kept,
-        id,
-        flags,
-        attributes,
-        bytes,
         made,
     )
 }
@@ -414,17 +376,13 @@ pub(crate) fn attempt<
     storage_key: &[u8; 32],
     session: &mut Session<E>,
     call: &Call,
-    id: ObjectId,
-    flags: Flags,
-    attributes: &Bytes,
-    bytes: &Bytes,
 ) -> Result<Option<PlacedReply>, NoMemory>
     requires caller { IsCallerOf L.store session.old }
     requires few { length L.store.mounted.applications ≤ 16 }
-    requires call { call.now ≡ Create id flags attributes.now bytes.now }
+    requires create { IsCreate call.now }
     requires keyed { storage_key.now ≡ ssk L.store.keys.huk L.store.keys.chip }
     requires kept { KeepsSlot L.devices slot.old [] }
-    ensures ends { EndsAttempt L.store session.old session.new (Create id flags attributes.now bytes.now) result }
+    ensures ends { EndsAttempt L.store session.old session.new call.now result }
     ensures draws { DrawsOn E.is_reliable E.faults session.old.entropy session.new.entropy }
     ensures kept { KeepsSlot L.devices slot.new [] }
     ensures drawn { IfOk result (λ found. IfSome found (λ answer. CarriesDraws (E.faults session.old.entropy) (E.faults session.new.entropy) answer.reply)) }
@@ -438,9 +396,5 @@ pub(crate) fn attempt<
         storage_key,
         session,
         call,
-        id,
-        flags,
-        attributes,
-        bytes,
     )
 }

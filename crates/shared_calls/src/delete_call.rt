@@ -110,7 +110,6 @@ pub(crate) fn delete_held<
     if found.held.entry.file != slot.number() {
         return Ok(None);
     }
-    // Tells how the gate and the card stand to each other.
-    let _doubt = gate.gate.doubt();
+    gate.gate.reveal_invariant();
     Ok(Some(serial_calls::delete(&mut gate.gate, slot, session, &found, handle)))
 }

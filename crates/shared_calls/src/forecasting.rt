@@ -31,8 +31,7 @@ pub fn forecast<F: StoreFile + Drop, R: RpmbPort + Drop, L: StoreName + DevicesN
     ensures draws { DrawsOn E.is_reliable E.faults session.old.entropy session.new.entropy }
     ensures drawn { IfOk result (λ found. IfErr found (λ answer. CarriesDraws (E.faults session.old.entropy) (E.faults session.new.entropy) answer.reply)) }
 {
-    // Tells how the gate and the card stand to each other.
-    let _doubt = gate.gate.doubt();
+    gate.gate.reveal_invariant();
     gate.gate.reserve()?;
     serial_calls::forecast(alloc, &mut gate.gate, session, call)
 }

@@ -45,8 +45,7 @@ pub(crate) fn begin<
     ensures let_be { gate.old.gate.doubt ≡ None → session.new.entropy ≡ session.old.entropy }
     ensures counter { IfOk result (λ answer. IsNone answer → gate.old.gate.doubt ≡ None → gate.new.gate.counter ≡ gate.old.gate.counter) }
 {
-    // Tells how the gate and the card stand to each other.
-    let _doubt = gate.gate.doubt();
+    gate.gate.reveal_invariant();
     gate.gate.reserve()?;
     if let Some(answer) = answer_alone(alloc, &mut gate.gate, session, call)? {
         return Ok(Some(answer));

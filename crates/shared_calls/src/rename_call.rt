@@ -113,8 +113,7 @@ pub(crate) fn rename_held<
     if found.held.entry.file != slot.number() {
         return Ok(None);
     }
-    // Tells how the gate and the card stand to each other.
-    let _doubt = gate.gate.doubt();
+    gate.gate.reveal_invariant();
     let answer = serial_calls::rename(&mut gate.gate, slot, session, &found, handle, id)?;
     Ok(Some(answer))
 }

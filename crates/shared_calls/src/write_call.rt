@@ -13,7 +13,8 @@ ghost use Rattle.shared_calls.specs.Validations.{EndsLook, IfAnswered, IfFound};
 ghost use Rattle.shared_calls.specs.SharedCatchUp.{MayLoad};
 ghost use Rattle.shared_calls.specs.SharedReady.{IsReady, IsSpent};
 ghost use Rattle.rpmb_card.specs.Protocol.{last_counter};
-ghost use Rattle.shared_calls.specs.Attempts.{EndsAttempt, IsAnswered, IsWaiting};
+ghost use Rattle.shared_calls.specs.Attempts.{EndsAttempt, IsAnswered};
+ghost use Rattle.serial_calls.specs.SessionEvents.{IsWaiting};
 ghost use Rattle.shared_calls.specs.Kept.{KeepsSlot};
 ghost use Rattle.shared_calls.specs.SharedCounts.{CarriesDraws};
 
@@ -294,8 +295,7 @@ fn answer_staged<F: StoreFile + Drop, R: RpmbPort + Drop, L: StoreName + Devices
     ensures kept { KeepsSlot L.devices slot.new [] }
     ensures drawn { (first : ℕ) → Grows first (E.faults session.old.entropy) → CarriesStaged first (E.faults session.old.entropy) staged → CarriesDraws first (E.faults session.new.entropy) result.reply }
 {
-    // Tells how the gate and the card stand to each other.
-    let _doubt = gate.gate.doubt();
+    gate.gate.reveal_invariant();
     catch_up_staged(&mut gate.gate, slot, session, &found.held.entry);
     answer_write(&mut gate.gate, slot, session, found, handle, bytes, staged)
 }

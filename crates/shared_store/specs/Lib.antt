@@ -8,6 +8,7 @@ pub use Rattle.shared_calls.specs.GuardedGates
 pub use Rattle.shared_calls.specs.Rising
 pub use Rattle.shared_calls.specs.Attempts
 pub use Rattle.shared_calls.specs.SharedCounts
+pub use Rattle.shared_calls.specs.SessionEvents
 pub use Rattle.shared_calls.specs.SlotValues
 pub use Rattle.shared_calls.specs.ForeseenCalls
 pub use Rattle.shared_calls.specs.QuotaCallers

@@ -26,7 +26,7 @@ use Rattle.crash_core.proofs.CardBlocks.{root_in-block}
 use Rattle.crash_core.proofs.SameDirectory.{directory_same}
 use Rattle.dir_file.specs.View.{DirView, StagedDirectory, adopted}
 use Rattle.dir_file.specs.Held.{IsDurable}
-use Rattle.store_commit.specs.declared.change.EntryChange.{EntryChange}
+use Rattle.crash_core.specs.declared.change.EntryChange.{EntryChange}
 use Rattle.store_commit.specs.declared.change.CardEnd.TheVariants.{Landed, Lost, Unknown}
 use Rattle.store_commit.specs.declared.change.CommitEnd.TheVariants.{Made, Dropped, Doubtful}
 use Rattle.store_commit.specs.Prepared.{IsStageOf, Prepares}

@@ -8,9 +8,9 @@ use Rattle.tee_types.specs.Limits.{last_file}
 use Rattle.dir_records.specs.declared.entry.DirEntry.{DirEntry}
 use Rattle.crash_core.specs.EntryLists.{IsUnnamed, entry_at}
 use Rattle.crash_core.proofs.Lists.{set_at}
-use Rattle.store_commit.specs.declared.change.EntryChange.{EntryChange}
-use Rattle.store_commit.specs.declared.change.EntryChange.TheVariants.{Put, Clear}
-use Rattle.store_commit.specs.Changes.{entries_after}
+use Rattle.crash_core.specs.declared.change.EntryChange.{EntryChange}
+use Rattle.crash_core.specs.declared.change.EntryChange.TheVariants.{Put, Clear}
+use Rattle.crash_core.specs.EntryChanges.{changed}
 use Rattle.store_commit.specs.Holds.{AreApart, AreHolds, EndsHoldOf, HoldsWithout, IsFreeFile, IsTaken, file_held, unless_file}
 
 -- what is held still was held, and is another file
@@ -66,7 +66,7 @@ unnamed_clear entries index file unnamed i f at = by_way (set_at entries index i
 
 -- the holds after a change
 pub holds_after : (entries : List (Option DirEntry)) (old new : List (Option ℕ)) (change : EntryChange) → AreHolds entries old → EndsHoldOf change old new
-    → AreHolds (entries_after entries change) new
+    → AreHolds (changed entries change) new
 holds_after entries old new (Put index e) holds without = record {
   within = λ session file held. holds.within session file (unless_was e.file file (file_held old session) (sym (without session) ∙ held)).0;
   unnamed = λ session file held.
@@ -75,7 +75,7 @@ holds_after entries old new (Put index e) holds without = record {
   single = λ a b file x y.
       holds.single a b file (unless_was e.file file (file_held old a) (sym (without a) ∙ x)).0 (unless_was e.file file (file_held old b) (sym (without b) ∙ y)).0;
 }
-holds_after entries old new (Clear index) holds same = subst (AreHolds (entries_after entries (Clear index))) (sym same) (record {
+holds_after entries old new (Clear index) holds same = subst (AreHolds (changed entries (Clear index))) (sym same) (record {
   within = holds.within;
   unnamed = λ session file held. unnamed_clear entries index file (holds.unnamed session file held);
   single = holds.single;

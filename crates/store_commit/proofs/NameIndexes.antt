@@ -15,8 +15,8 @@ use Rattle.crash_core.proofs.EntryMaps.{self}
 use Rattle.crash_core.proofs.Lists.{set_else, set_here}
 use Rattle.crash_core.proofs.Names.{alike_is, name_test}
 use Rattle.dir_index.specs.Index.{IndexState, index_at}
-use Rattle.store_commit.specs.declared.change.EntryChange.{EntryChange}
-use Rattle.store_commit.specs.declared.change.EntryChange.TheVariants.{Put, Clear}
+use Rattle.crash_core.specs.declared.change.EntryChange.{EntryChange}
+use Rattle.crash_core.specs.declared.change.EntryChange.TheVariants.{Put, Clear}
 use Rattle.store_commit.specs.NameIndex.{AddsName, ClearsName, HasSameNames, IsIndexOf, PutsName, name_added, names_added}
 
 pub room_kept : (o : Option ℕ) (a b : ℕ) → (IsSome o → b ≡ a + 1) → (o ≡ None → b ≡ a) → a ≤ b

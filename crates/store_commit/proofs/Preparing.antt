@@ -12,8 +12,8 @@ use Rattle.dir_records.specs.declared.entry.DirEntry.{DirEntry}
 use Rattle.dir_file.specs.View.{DirValue, DirView, StagedDirectory, adopted}
 use Rattle.dir_file.specs.Held.{IsDurable, IsStaged}
 use Rattle.dir_file.specs.Stages.{IsNext, SettlesDirectory, StagesEntry}
-use Rattle.store_commit.specs.declared.change.EntryChange.{EntryChange}
-use Rattle.store_commit.specs.declared.change.EntryChange.TheVariants.{Put, Clear}
+use Rattle.crash_core.specs.declared.change.EntryChange.{EntryChange}
+use Rattle.crash_core.specs.declared.change.EntryChange.TheVariants.{Put, Clear}
 use Rattle.store_commit.specs.Prepared.{IsStageOf, Prepares, StageStands, StagesChange}
 
 -- what an open stage is

@@ -12,7 +12,7 @@ use Rattle.rpmb_host.specs.Honest.{HasCard}
 use Rattle.dir_index.specs.Index.{IndexState}
 use Rattle.dir_file.specs.View.{DirView, StagedDirectory}
 use Rattle.dir_file.specs.Held.{IsDurable}
-use Rattle.store_commit.specs.declared.gate.Doubted.{Doubted}
+use Rattle.crash_core.specs.declared.change.DoubtedChange.{DoubtedChange}
 use Rattle.store_commit.specs.Arming.{IsRearmedFile, IsRearmedPort}
 use Rattle.store_commit.specs.Gates.{DoubtStands, IsGate}
 use Rattle.store_commit.specs.Sides.{IsInDoubt, IsSettled, Sides, sides}
@@ -77,15 +77,15 @@ module _ (f : FileState) (d : DirView) (p : PortState) (key : List ℕ) (counter
     named = λ card has. is.named card (had card has);
   }
 
-  stands : (o : Option Doubted) → DoubtStands g o → DoubtStands h o
+  stands : (o : Option DoubtedChange) → DoubtStands g o → DoubtStands h o
   stands None is = settled is
   stands (Some x) is = record { next = is.next; stands = in_doubt is.next is.stands; entries = is.entries; fits = is.fits; number = is.number }
 
-  armed_gate : (o : Option Doubted) (index : IndexState) (holds : List (Option ℕ)) → IsGate g o index holds → IsGate h o index holds
+  armed_gate : (o : Option DoubtedChange) (index : IndexState) (holds : List (Option ℕ)) → IsGate g o index holds → IsGate h o index holds
   armed_gate o index holds is = record { stands = stands o is.stands; names = is.names; due = is.due; held = is.held; taken = is.taken }
 
 -- the gate of the new file and port
-pub rearmed_gate : (f f1 : FileState) (d d1 : DirView) (p p1 : PortState) (k k1 : List ℕ) (counter : ℕ) (o : Option Doubted) (index : IndexState) (holds : List (Option ℕ))
+pub rearmed_gate : (f f1 : FileState) (d d1 : DirView) (p p1 : PortState) (k k1 : List ℕ) (counter : ℕ) (o : Option DoubtedChange) (index : IndexState) (holds : List (Option ℕ))
     → IsRearmedFile f f1 → d1 ≡ d → IsRearmedPort p p1 → k1 ≡ k → IsGate (sides f d p k counter) o index holds → IsGate (sides f1 d1 p1 k1 counter) o index holds
 rearmed_gate f f1 d d1 p p1 k k1 counter o index holds file dir port key is =
     subst (λ (x : FileState). IsGate (sides x d1 p1 k1 counter) o index holds) (sym file)

@@ -7,10 +7,10 @@ use Rattle.rpmb_card.specs.Port.{PortState}
 use Rattle.rpmb_host.specs.declared.fault.HostFault.{HostFault}
 use Rattle.rpmb_host.specs.Honest.{HasCard}
 use Rattle.dir_file.specs.View.{DirValue, DirView, StagedDirectory, adopted}
-use Rattle.store_commit.specs.declared.gate.Doubted.{Doubted}
+use Rattle.crash_core.specs.declared.change.DoubtedChange.{DoubtedChange}
 use Rattle.store_commit.specs.declared.resolve.Resolved.TheVariants.{Landed, Dropped}
-use Rattle.store_commit.specs.declared.change.EntryChange.{EntryChange}
-use Rattle.store_commit.specs.declared.change.EntryChange.TheVariants.{Put, Clear}
+use Rattle.crash_core.specs.declared.change.EntryChange.{EntryChange}
+use Rattle.crash_core.specs.declared.change.EntryChange.TheVariants.{Put, Clear}
 use Rattle.dir_index.specs.Index.{IndexState}
 use Rattle.store_commit.specs.Gates.{DoubtStands, IsDoubtOf, IsGate}
 use Rattle.store_commit.specs.Holds.{AreHolds, EndsHoldOf, file_held}
@@ -31,7 +31,7 @@ number_dropped counter n (Ok found) meant = meant.1
 number_dropped counter n (Err fault) meant = absurd meant
 
 -- the doubt of an invariant
-pub doubt_of : (g : Sides) (o : Option Doubted) (d : Doubted) → o ≡ Some d → DoubtStands g o → IsDoubtOf g d
+pub doubt_of : (g : Sides) (o : Option DoubtedChange) (d : DoubtedChange) → o ≡ Some d → DoubtStands g o → IsDoubtOf g d
 doubt_of g o d is stands = subst (DoubtStands g) is stands
 
 -- the stage that is adopted
@@ -39,7 +39,7 @@ pub adopted_next : {F : Type 0} (old new : DirValue F) (next : StagedDirectory) 
     → IfSome old.dir.stage (λ s. new ≡ record old { dir = adopted old.dir s }) → new ≡ record old { dir = adopted old.dir next }
 adopted_next old new next is_open committed = at_some old.dir.stage (λ s. new ≡ record old { dir = adopted old.dir s }) next is_open committed
 
-module _ (s : FileState) (d : DirView) (p0 p1 : PortState) (k0 k1 : List ℕ) (counter : ℕ) (doubted : Doubted) (is : IsDoubtOf (sides s d p0 k0 counter) doubted)
+module _ (s : FileState) (d : DirView) (p0 p1 : PortState) (k0 k1 : List ℕ) (counter : ℕ) (doubted : DoubtedChange) (is : IsDoubtOf (sides s d p0 k0 counter) doubted)
     (was : (card : CardState) → HasCard p1 k1 card → HasCard p0 k0 card) where
   abbrev next : StagedDirectory
   next = is.next
@@ -134,7 +134,7 @@ holds_fewer entries old new (Put index e) holds without = record {
 }
 holds_fewer entries old new (Clear index) holds same = subst (AreHolds entries) (sym same) holds
 
-pub undone_gate : (g h : Sides) (o : Option Doubted) (d : Doubted) (n : ℕ) (index : IndexState) (old new : List (Option ℕ)) → IsGate g o index old → IsUndone g h d n
+pub undone_gate : (g h : Sides) (o : Option DoubtedChange) (d : DoubtedChange) (n : ℕ) (index : IndexState) (old new : List (Option ℕ)) → IsGate g o index old → IsUndone g h d n
     → EndsHoldOf d.change old new → IsGate h None index new
 undone_gate g h o d n index old new gate undone ends =
     let entries : h.dir.entries ≡ g.dir.entries = ap (λ (v : DirView). v.entries) undone.same in

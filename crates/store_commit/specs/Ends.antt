@@ -5,21 +5,21 @@ use Rattle.disk_model.specs.Keeps.{Keeps}
 use Rattle.htree_file.specs.Selected.{Lies}
 use Rattle.crash_core.specs.Directory.{directory_of}
 use Rattle.dir_file.specs.View.{StagedDirectory}
-use Rattle.store_commit.specs.declared.change.EntryChange.{EntryChange}
+use Rattle.crash_core.specs.declared.change.EntryChange.{EntryChange}
+use Rattle.crash_core.specs.EntryChanges.{changed}
 use Rattle.store_commit.specs.declared.change.CommitEnd.{CommitEnd}
 use Rattle.store_commit.specs.declared.change.CommitEnd.TheVariants.{Made, Dropped, Doubtful, Spent}
-use Rattle.store_commit.specs.Changes.{entries_after}
 use Rattle.store_commit.specs.Sides.{EachPicture, IsInDoubt, IsSettled, Sides}
 
 -- the commit was made: its number, and the entries with the change
 pub record IsMade (old new : Sides) (change : EntryChange) (n : ℕ) : Type 0 where
   pub number : n ≡ old.counter + 1
   pub counted : new.counter ≡ n
-  pub entries : new.dir.entries ≡ entries_after old.dir.entries change
+  pub entries : new.dir.entries ≡ changed old.dir.entries change
   pub tsk : new.dir.tsk ≡ old.dir.tsk
   pub format : new.dir.root.format ≡ old.dir.root.format
   pub settled : IsSettled new
-  pub pictures : EachPicture new (λ m. m ≡ Ok (entries_after old.dir.entries change))
+  pub pictures : EachPicture new (λ m. m ≡ Ok (changed old.dir.entries change))
 
 -- nothing was committed
 pub record IsDropped (old new : Sides) : Type 0 where
@@ -34,9 +34,9 @@ pub record IsDoubted (old new : Sides) (change : EntryChange) (n : ℕ) : Type 0
   pub counted : new.counter ≡ old.counter
   pub same : new.dir ≡ record old.dir { stage = new.dir.stage }
   pub next : StagedDirectory
-  pub entries : next.entries ≡ entries_after old.dir.entries change
+  pub entries : next.entries ≡ changed old.dir.entries change
   pub doubt : IsInDoubt new next
-  pub pictures : EachPicture new (λ m. (m ≡ Ok old.dir.entries) ⊎ (m ≡ Ok (entries_after old.dir.entries change)))
+  pub pictures : EachPicture new (λ m. (m ≡ Ok old.dir.entries) ⊎ (m ≡ Ok (changed old.dir.entries change)))
 
 -- nothing was done: the counter is at its end
 pub record IsSpent (old new : Sides) : Type 0 where

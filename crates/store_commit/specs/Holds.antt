@@ -4,8 +4,7 @@ use Rattle.tee_types.specs.Limits.{last_file}
 use Rattle.dir_records.specs.declared.entry.DirEntry.{DirEntry}
 use Rattle.crash_core.specs.EntryLists.{IsUnnamed, entry_at}
 use Rattle.crash_core.specs.EntryChanges.{file_put}
-use Rattle.store_commit.specs.declared.change.EntryChange.{EntryChange}
-use Rattle.store_commit.specs.Changes.{change_of}
+use Rattle.crash_core.specs.declared.change.EntryChange.{EntryChange}
 
 -- the file that a session holds
 abbrev pub file_held : (holds : List (Option ℕ)) → (session : ℕ) → Option ℕ
@@ -51,7 +50,7 @@ EndsHold None old new = new ≡ old
 EndsHold (Some file) old new = HoldsWithout file old new
 
 abbrev pub EndsHoldOf : EntryChange → (old new : List (Option ℕ)) → Type 0
-EndsHoldOf change old new = EndsHold (file_put (change_of change)) old new
+EndsHoldOf change old new = EndsHold (file_put change) old new
 
 -- an object's file that no entry names and no session holds
 pub record IsFreeFile (entries : List (Option DirEntry)) (holds : List (Option ℕ)) (file : ℕ) : Type 0 where

@@ -8,8 +8,8 @@ use Rattle.crash_core.specs.Entries.{name_of}
 use Rattle.crash_core.specs.EntryLists.{entry_at}
 use Rattle.dir_index.specs.Index.{IndexState, index_at}
 use Rattle.dir_file.specs.EntryForms.{Fits}
-use Rattle.store_commit.specs.declared.change.EntryChange.{EntryChange}
-use Rattle.store_commit.specs.declared.change.EntryChange.TheVariants.{Put, Clear}
+use Rattle.crash_core.specs.declared.change.EntryChange.{EntryChange}
+use Rattle.crash_core.specs.declared.change.EntryChange.TheVariants.{Put, Clear}
 
 -- a name is held exactly where an entry has it, with that entry's index
 pub record IsIndexOf (s : IndexState) (entries : List (Option DirEntry)) : Type 0 where

@@ -15,9 +15,9 @@ use Rattle.dir_file.specs.View.{DirView, StagedDirectory}
 use Rattle.dir_file.specs.EntryForms.{AreEntriesOf}
 use Rattle.dir_file.specs.Held.{IsDurable, IsStaged}
 use Rattle.dir_file.specs.Stages.{StagesEntry}
-use Rattle.store_commit.specs.declared.change.EntryChange.{EntryChange}
-use Rattle.store_commit.specs.declared.change.EntryChange.TheVariants.{Put, Clear}
-use Rattle.store_commit.specs.Changes.{entries_after}
+use Rattle.crash_core.specs.declared.change.EntryChange.{EntryChange}
+use Rattle.crash_core.specs.declared.change.EntryChange.TheVariants.{Put, Clear}
+use Rattle.crash_core.specs.EntryChanges.{changed}
 
 -- the cause that a fault of a tree is
 abbrev pub TreeCause : TreeFault → Cause → Type 0
@@ -34,7 +34,7 @@ StagesChange old new was now (Clear index) result = StagesEntry old new was now 
 pub record IsStageOf (settled : Bool) (was : DirView) (change : EntryChange) (s : StagedDirectory) : Type 0 where
   pub version : s.root.version ≡ 1 - was.root.version
   pub format : s.root.format ≡ was.root.format
-  pub entries_are : s.entries ≡ entries_after was.entries change
+  pub entries_are : s.entries ≡ changed was.entries change
   pub is_settled : s.settled ≡ settled
   -- each name and each file stands once still
   pub are : AreEntriesOf was.entries → AreEntriesOf s.entries

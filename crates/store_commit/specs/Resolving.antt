@@ -11,11 +11,11 @@ use Rattle.tee_types.specs.declared.reply.Cause.{Cause}
 use Rattle.tee_types.specs.declared.reply.Cause.TheVariants.{Fault, Frame}
 use Rattle.tee_types.specs.declared.reply.FrameFault.TheVariants.{Counter}
 use Rattle.tee_types.specs.declared.reply.Device.TheVariants.{Card}
+use Rattle.crash_core.specs.EntryChanges.{changed}
 use Rattle.store_commit.specs.declared.resolve.Resolved.{Resolved}
 use Rattle.store_commit.specs.declared.resolve.Resolved.TheVariants.{Landed, Dropped}
-use Rattle.store_commit.specs.declared.gate.Doubted.{Doubted}
+use Rattle.crash_core.specs.declared.change.DoubtedChange.{DoubtedChange}
 use Rattle.store_commit.specs.CardCauses.{FaultIs, IsOfFrame}
-use Rattle.store_commit.specs.Changes.{entries_after}
 use Rattle.store_commit.specs.Holds.{EndsHoldOf}
 use Rattle.store_commit.specs.Sides.{EachPicture, IsSettled, Sides}
 
@@ -47,12 +47,12 @@ TellsCounter key counter port (Ok (Dropped n)) = (card : CardState) → HasCard 
 TellsCounter key counter port (Err cause) = Unit {0}
 
 -- the doubt that is left
-abbrev pub LeavesDoubt : (old new : Option Doubted) → Result Resolved Cause → Type 0
+abbrev pub LeavesDoubt : (old new : Option DoubtedChange) → Result Resolved Cause → Type 0
 LeavesDoubt old new (Ok how) = new ≡ None
 LeavesDoubt old new (Err cause) = new ≡ old
 
 -- both outcomes end the hold on the file that the doubted change puts
-abbrev pub ResolvesHolds : Doubted → Result Resolved Cause → (old new : List (Option ℕ)) → Type 0
+abbrev pub ResolvesHolds : DoubtedChange → Result Resolved Cause → (old new : List (Option ℕ)) → Type 0
 ResolvesHolds d (Ok how) old new = EndsHoldOf d.change old new
 ResolvesHolds d (Err cause) old new = new ≡ old
 
@@ -63,17 +63,17 @@ StaysDoubted key counter old new cause =
     ⊎ (((card : CardState) → HasCard old key card → (card.counter ≡ counter) ⊎ (card.counter ≡ counter + 1) → ⊥) × IsOfFrame cause)
 
 -- the doubted commit landed
-pub record IsLanded (old new : Sides) (d : Doubted) (n : ℕ) : Type 0 where
+pub record IsLanded (old new : Sides) (d : DoubtedChange) (n : ℕ) : Type 0 where
   pub number : n ≡ d.number
   pub counted : new.counter ≡ n
-  pub entries : new.dir.entries ≡ entries_after old.dir.entries d.change
+  pub entries : new.dir.entries ≡ changed old.dir.entries d.change
   pub tsk : new.dir.tsk ≡ old.dir.tsk
   pub format : new.dir.root.format ≡ old.dir.root.format
   pub settled : IsSettled new
-  pub pictures : EachPicture new (λ m. m ≡ Ok (entries_after old.dir.entries d.change))
+  pub pictures : EachPicture new (λ m. m ≡ Ok (changed old.dir.entries d.change))
 
 -- it did not land
-pub record IsUndone (old new : Sides) (d : Doubted) (n : ℕ) : Type 0 where
+pub record IsUndone (old new : Sides) (d : DoubtedChange) (n : ℕ) : Type 0 where
   pub number : n ≡ d.number
   pub counted : new.counter ≡ old.counter
   pub same : new.dir ≡ record old.dir { stage = None }
@@ -81,11 +81,11 @@ pub record IsUndone (old new : Sides) (d : Doubted) (n : ℕ) : Type 0 where
   pub pictures : EachPicture new (λ m. m ≡ Ok old.dir.entries)
 
 -- nobody knows
-pub record IsUnresolved (old new : Sides) (d : Doubted) : Type 0 where
+pub record IsUnresolved (old new : Sides) (d : DoubtedChange) : Type 0 where
   pub same : new ≡ record old { port = new.port }
-  pub pictures : EachPicture new (λ m. (m ≡ Ok old.dir.entries) ⊎ (m ≡ Ok (entries_after old.dir.entries d.change)))
+  pub pictures : EachPicture new (λ m. (m ≡ Ok old.dir.entries) ⊎ (m ≡ Ok (changed old.dir.entries d.change)))
 
-abbrev pub Resolves : (old new : Sides) → Doubted → Result Resolved Cause → Type 0
+abbrev pub Resolves : (old new : Sides) → DoubtedChange → Result Resolved Cause → Type 0
 Resolves old new d (Ok (Landed n)) = IsLanded old new d n
 Resolves old new d (Ok (Dropped n)) = IsUndone old new d n
 Resolves old new d (Err cause) = IsUnresolved old new d

@@ -11,10 +11,10 @@ use Rattle.rpmb_card.specs.Card.{CardState}
 use Rattle.rpmb_host.specs.Honest.{HasCard}
 use Rattle.crash_core.specs.CardBlock.{IsReference}
 use Rattle.crash_core.specs.Directory.{directory_of}
-use Rattle.store_commit.specs.declared.change.EntryChange.{EntryChange}
+use Rattle.crash_core.specs.declared.change.EntryChange.{EntryChange}
+use Rattle.crash_core.specs.EntryChanges.{changed}
 use Rattle.store_commit.specs.declared.change.CommitEnd.{CommitEnd}
 use Rattle.store_commit.specs.declared.change.CommitEnd.TheVariants.{Made, Dropped, Doubtful, Spent}
-use Rattle.store_commit.specs.Changes.{entries_after}
 use Rattle.store_commit.specs.CardEnds.{IsSealedCard}
 use Rattle.store_commit.specs.Sides.{Sides}
 
@@ -27,7 +27,7 @@ pub record IsReady (old new : Sides) (change : EntryChange) (root : RootRef) : T
   pub writes : Keeps (Lies old.dir.tree.layout old.dir.tree.nodes old.dir.root.version) old.file mid
   pub syncs : Syncs mid new.file
   pub settled : pending new.file ≡ []
-  pub holds : IsTrue new.file.honest → directory_of old.dir.tsk new.file.reads root ≡ Ok (entries_after old.dir.entries change)
+  pub holds : IsTrue new.file.honest → directory_of old.dir.tsk new.file.reads root ≡ Ok (changed old.dir.entries change)
 
 -- the seal, of any card that has the key and the counter
 abbrev pub Seals : (old new : Sides) → RootRef → Type 0

@@ -1,24 +1,6 @@
-//! A change of the directory, and how a commit ends.
+//! How a commit of a change of the directory ends.
 
-use dir_records::DirEntry;
 use tee_types::Cause;
-
-/// A change of one entry of the directory.
-#[derive(Clone, Copy, PartialEq, Eq, Debug)]
-pub enum EntryChange {
-    /// An entry is put at an index, in place of the one there.
-    Put {
-        /// The entry's index, below 256.
-        index: u16,
-        /// The entry.
-        entry: DirEntry,
-    },
-    /// The entry at an index goes.
-    Clear {
-        /// The entry's index, below 256.
-        index: u16,
-    },
-}
 
 /// How a commit ended.
 #[derive(Clone, Copy, PartialEq, Eq, Debug)]

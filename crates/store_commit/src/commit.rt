@@ -13,8 +13,9 @@ ghost use Rattle.store_commit.specs.Prepared.{DrawnCause};
 ghost use Rattle.store_commit.specs.declared.change.CommitEnd.TheVariants.{Spent};
 
 use crate::card::write_root;
-use crate::change::{CardEnd, CommitEnd, EntryChange};
+use crate::change::{CardEnd, CommitEnd};
 use crate::staging::prepare;
+use crash_core::EntryChange;
 use dir_file::DirFile;
 use rpmb_card::RpmbPort;
 use rpmb_host::Host;

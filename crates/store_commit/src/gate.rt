@@ -1,11 +1,11 @@
 //! The gate of a mounted store, and its commits.
 
-ghost use Rattle.std.specs.Prelude.{◌≡◌, ◌≤◌, ◌+◌, ◌↔◌, get_or, None, Some, IsTrue};
+ghost use Rattle.std.specs.Prelude.{◌≡◌, ◌≤◌, ◌<◌, ◌+◌, ◌^◌, ◌↔◌, get_or, None, Some, IsTrue};
 ghost use Rattle.std.specs.Option.{option_map};
 ghost use Rattle.rpmb_card.specs.Protocol.{last_counter};
 ghost use Rattle.open_table.specs.Table.{allows_on_file, is_file_open};
 ghost use Rattle.crash_core.specs.EntryChanges.{file_put, index_of};
-ghost use Rattle.store_commit.specs.Changes.{FitsIn, change_of};
+ghost use Rattle.store_commit.specs.Changes.{FitsIn};
 ghost use Rattle.store_commit.specs.Ends.{Leaves, Throughout};
 ghost use Rattle.store_commit.specs.Steps.{Steps};
 ghost use Rattle.store_commit.specs.Causes.{DoubtIsByCard, EndCause, EndIsDrawn, EndNotDrawn, EndNotOfCard, KeepsPortArms, StaysCalm, counts};
@@ -15,12 +15,13 @@ ghost use Rattle.store_commit.specs.Gates.{DoubtStands, LeavesHolds, doubt_left,
 ghost use Rattle.store_commit.specs.Holds.{AreHolds, IsTaken};
 ghost use Rattle.store_commit.specs.EntryMoves.{IsEntryMove};
 ghost use Rattle.store_commit.specs.declared.change.CommitEnd.TheVariants.{Spent};
-ghost use Rattle.store_commit.specs.declared.change.EntryChange.TheVariants.{Put};
+ghost use Rattle.crash_core.specs.declared.change.EntryChange.TheVariants.{Put};
 
-use crate::change::{CommitEnd, EntryChange};
+use crate::change::CommitEnd;
 use crate::commit::commit_parts;
 use crate::holds::end_hold;
 use crate::names::change_names;
+use crash_core::{DoubtedChange, EntryChange};
 use dir_file::DirFile;
 use dir_index::DirIndex;
 use dir_records::DirEntry;
@@ -30,15 +31,6 @@ use rpmb_host::Host;
 use std::marker::Model;
 use tee_ports::{Entropy, StoreFile};
 use tee_types::{Flags, MAX_SESSIONS};
-
-/// A commit that is in doubt.
-#[derive(Clone, Copy, PartialEq, Eq, Debug)]
-pub struct Doubted {
-    /// Its number: the card's counter, if it landed.
-    pub number: u32,
-    /// The change that it makes.
-    pub change: EntryChange,
-}
 
 /// The gate of a mounted store: its directory and its card, the index of names, the open handles of all sessions, and the files
 /// that sessions hold.
@@ -50,7 +42,7 @@ pub struct Gate<F: StoreFile + Drop, R: RpmbPort + Drop> {
     pub(crate) dir: DirFile<F>,
     pub(crate) host: Host<R>,
     pub(crate) counter: u32,
-    pub(crate) doubt: Option<Doubted>,
+    pub(crate) doubt: Option<DoubtedChange>,
     pub(crate) index: DirIndex,
     pub(crate) handles: OpenTable,
     pub(crate) holds: [Option<u16>; MAX_SESSIONS],
@@ -87,7 +79,7 @@ pub(crate) fn entry_of<F: StoreFile>(dir: &DirFile<F>, index: u16) -> Option<Dir
 
 // The index of the entry that a change changes.
 pub(crate) fn index_of(change: &EntryChange) -> u16
-    ensures { result ≡ index_of (change_of change.now) }
+    ensures { result ≡ index_of change.now }
 {
     match change {
         EntryChange::Put { index, .. } => *index,
@@ -103,9 +95,8 @@ impl<F: StoreFile + Drop, R: RpmbPort + Drop> Gate<F, R> {
         entry_of(&self.dir, index)
     }
 
-    /// The card's counter.
+    /// The card's counter, without the commit in doubt where one is.
     pub fn counter(&self) -> u32
-        requires { self.now.doubt ≡ None }
         ensures { result ≡ self.now.counter }
     {
         self.counter
@@ -113,17 +104,26 @@ impl<F: StoreFile + Drop, R: RpmbPort + Drop> Gate<F, R> {
 
     /// The number of the commit in doubt, if one is.
     pub fn doubt(&self) -> Option<u32>
-        ensures number { result ≡ option_map (λ d. d.number) self.now.doubt }
-        // What always holds of a gate: its directory and its card stand to each other, each hold is on a file that no entry names, and the
-        // file that the commit in doubt puts is an entry's, or held.
-        ensures stands { DoubtStands (gate_sides F.state R.state self.now) self.now.doubt }
-        ensures held { AreHolds self.now.dir.dir.entries self.now.holds }
-        ensures taken { IsTaken self.now.dir.dir.entries self.now.holds (file_in_doubt self.now.doubt) }
+        ensures { result ≡ option_map (λ d. d.number) self.now.doubt }
     {
         match self.doubt {
             Some(doubted) => Some(doubted.number),
             None => None,
         }
+    }
+
+    /// Tells a caller's proof what always holds of a gate; at run time it does nothing. Its directory and its card stand to each other,
+    /// each hold is on a file that no entry names, and the file that the commit in doubt puts is an entry's, or held. The counter is of
+    /// 32 bits.
+    pub fn reveal_invariant(&self)
+        ensures stands { DoubtStands (gate_sides F.state R.state self.now) self.now.doubt }
+        ensures held { AreHolds self.now.dir.dir.entries self.now.holds }
+        ensures taken { IsTaken self.now.dir.dir.entries self.now.holds (file_in_doubt self.now.doubt) }
+        ensures counter { self.now.counter < 2 ^ 32 }
+    {
+        // The invariant is at hand where a field is named, and a number that is given back is of 32 bits.
+        let _ = &self.counter;
+        let _counter = self.counter();
     }
 
     /// Whether a new handle with these flags may be opened beside every open handle on that file.
@@ -149,7 +149,7 @@ impl<F: StoreFile + Drop, R: RpmbPort + Drop> Gate<F, R> {
         requires idle { self.old.doubt ≡ None }
         requires format { self.old.dir.dir.root.format ≡ 2 }
         requires fits { FitsIn self.old.dir.dir.entries change }
-        requires taken { IsTaken self.old.dir.dir.entries self.old.holds (file_put (change_of change)) }
+        requires taken { IsTaken self.old.dir.dir.entries self.old.holds (file_put change) }
         requires room { 1 ≤ self.old.room }
         ensures leaves { Leaves (gate_sides F.state R.state self.old) (gate_sides F.state R.state self.new) change result }
         ensures doubt { self.new.doubt ≡ doubt_left change result }
@@ -189,7 +189,7 @@ impl<F: StoreFile + Drop, R: RpmbPort + Drop> Gate<F, R> {
                 CommitEnd::Made(number)
             }
             CommitEnd::Doubtful(number, cause) => {
-                self.doubt = Some(Doubted { number, change });
+                self.doubt = Some(DoubtedChange { number, change });
                 CommitEnd::Doubtful(number, cause)
             }
             CommitEnd::Dropped(cause) => CommitEnd::Dropped(cause),

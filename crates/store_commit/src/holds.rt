@@ -5,9 +5,9 @@ ghost use Rattle.dir_file.specs.EntryForms.{AreEntriesOf};
 ghost use Rattle.store_commit.specs.Gates.{file_in_doubt};
 ghost use Rattle.store_commit.specs.Holds.{AreApart, AreHolds, EndsHoldOf, HoldsWithout, IsLeastFreeFile, file_held, unless_file};
 
-use crate::change::EntryChange;
 use crate::gate::Gate;
 use crate::marks::{MARKS, first_unmarked, mark_held, mark_named};
+use crash_core::EntryChange;
 use dir_records::DirEntry;
 use rpmb_card::RpmbPort;
 use tee_ports::StoreFile;

@@ -26,12 +26,13 @@ mod sync;
 
 pub use block::{directory_at, root_in};
 pub use card::{root_block, write_root};
-pub use change::{CardEnd, CommitEnd, EntryChange};
+pub use change::{CardEnd, CommitEnd};
 pub use commit::{commit_parts, draw_nonce};
+pub use crash_core::{DoubtedChange, EntryChange};
 pub use dir_index::Held;
 pub use fault::{DirectoryRefused, GateBroken, MountFault};
 pub use form::format_parts;
-pub use gate::{Doubted, Gate};
+pub use gate::Gate;
 pub use reading::{CardRead, read_block, read_card};
 pub use resolve::Resolved;
 pub use staging::prepare;

@@ -8,7 +8,7 @@ ghost use Rattle.crash_core.specs.Entries.{name_of};
 ghost use Rattle.dir_index.specs.Index.{index_at};
 ghost use Rattle.store_commit.specs.NameIndex.{AddsName, ChangesNames, PutsName, name_added, names_added};
 
-use crate::change::EntryChange;
+use crash_core::EntryChange;
 use dir_index::{DirIndex, changes_concern_one_name};
 use dir_records::DirEntry;
 use store_model::ObjectName;

@@ -6,8 +6,8 @@ ghost use Rattle.store_commit.specs.NameIndex.{HasSameNames};
 ghost use Rattle.store_commit.specs.Noting.{Notes};
 ghost use Rattle.open_table.specs.HandleChanges.{DropsHandle, NotesReply};
 
-use crate::change::EntryChange;
-use crate::gate::{Doubted, Gate};
+use crate::gate::Gate;
+use crash_core::{DoubtedChange, EntryChange};
 use dir_index::DirIndex;
 use open_table::OpenTable;
 use rpmb_card::RpmbPort;
@@ -43,7 +43,7 @@ fn note_reply(handles: &mut OpenTable, file: u16, session: u32, call: &Call, rep
 }
 
 // Makes room for one name beside the one that a commit in doubt may bring.
-fn reserve_name(index: &mut DirIndex, doubt: &Option<Doubted>) -> Result<(), NoMemory>
+fn reserve_name(index: &mut DirIndex, doubt: &Option<DoubtedChange>) -> Result<(), NoMemory>
     requires due { names_due index.old doubt.now ≤ index.old.spare }
     ensures names { HasSameNames index.old index.new }
     ensures room { OnOk result (1 + names_due index.new doubt.now ≤ index.new.spare) }
@@ -51,7 +51,7 @@ fn reserve_name(index: &mut DirIndex, doubt: &Option<Doubted>) -> Result<(), NoM
 {
     match doubt {
         Some(
-            Doubted {
+            DoubtedChange {
                 change: EntryChange::Put { .. },
                 ..
             },

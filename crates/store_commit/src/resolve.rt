@@ -7,9 +7,10 @@ ghost use Rattle.store_commit.specs.Gates.{gate_sides};
 ghost use Rattle.store_commit.specs.Resolving.{IsAnswered, LeavesDoubt, Resolves, ResolvesHolds, StaysDoubted, TellsCounter};
 
 use crate::card::cause_of;
-use crate::gate::{Doubted, Gate, entry_of, index_of};
+use crate::gate::{Gate, entry_of, index_of};
 use crate::holds::end_hold;
 use crate::names::change_names;
+use crash_core::DoubtedChange;
 use rpmb_card::RpmbPort;
 use rpmb_host::Host;
 use tee_ports::StoreFile;
@@ -59,7 +60,7 @@ fn ask_doubt<R: RpmbPort>(
 }
 
 // The commit that is in doubt.
-fn doubted_of(doubt: &Option<Doubted>) -> Doubted
+fn doubted_of(doubt: &Option<DoubtedChange>) -> DoubtedChange
     requires { IsSome doubt.now }
     ensures { doubt.now ≡ Some result }
 {

@@ -6,7 +6,7 @@ ghost use Rattle.store_commit.specs.Changes.{FitsIn};
 ghost use Rattle.store_commit.specs.Causes.{IsDrawn, NotDrawn};
 ghost use Rattle.store_commit.specs.Prepared.{PrepareCause, Prepares, StagesChange, TreeCause};
 
-use crate::change::EntryChange;
+use crash_core::EntryChange;
 use dir_file::DirFile;
 use htree_file::TreeFault;
 use node_image::RootRef;

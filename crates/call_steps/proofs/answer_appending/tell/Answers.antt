@@ -1,5 +1,5 @@
 -- The reply that the file gave may be told, the session is as the machine's, and the slot may stand behind its lock again.
-use Rattle.std.proofs.Common.{◌≡◌, ◌<◌, ◌^◌, ℕ, Some, sym, ap, ◌∙◌, subst}
+use Rattle.std.proofs.Common.{◌≡◌, ◌<◌, ◌^◌, Some, sym, ap, ◌∙◌, subst}
 use Rattle.history_seats.specs.Changes.{slot_renewed}
 use Rattle.history_seats.specs.Views.{GateView, Sight, SlotView}
 use Rattle.commit_gate.specs.JournalCalls.{IsMovedBy}
@@ -24,11 +24,11 @@ answer_with-place-requires-clause-told g c =
     let s = c.args.session.now in
     let may = c.requires.may in
     let own : SlotInvariant store slot = c.requires.guarded in
-    let low : gate.gate.counter < 2 ^ 32 = subst (λ (n : ℕ). n < 2 ^ 32) c.counter-counter.ensures c.counter-counter.type_inv in
+    let low : gate.gate.counter < 2 ^ 32 = c.reveal_invariant.ensures.counter in
     let lent : c.lend_seat-seat.result ≡ may.at.sees.seat =
     seat_same c.lend_seat-seat.result may.at.sees.seat (sym c.lend_seat-seat.ensures.seat ∙ may.at.sees.is) in
     subst (λ (x : Sight SlotView). MayBeTold store gate.gate.doubt gate.gate.dir.dir.entries knows x.knows s.number s.made c.args.call c.args.reply) (sym lent)
-    (answer-told store gate.gate knows gate.closing c.doubt-doubt.ensures.guarded c.doubt-doubt.ensures.entries c.doubt-doubt.ensures.machine low slot own c.args.call c.args.reply s may)
+    (answer-told store gate.gate knows gate.closing c.reveal_invariant.ensures.guarded c.reveal_invariant.ensures.entries c.reveal_invariant.ensures.machine low slot own c.args.call c.args.reply s may)
 
 pub answer_with-place-requires-clause-moved : goal.answer_with-place-requires-clause-moved
 answer_with-place-requires-clause-moved g c =
@@ -40,7 +40,7 @@ answer_with-place-requires-clause-moved g c =
     let lent : c.lend_seat-seat.result ≡ may.at.sees.seat =
     seat_same c.lend_seat-seat.result may.at.sees.seat (sym c.lend_seat-seat.ensures.seat ∙ may.at.sees.is) in
     subst (λ (x : Sight SlotView). IsMovedBy store knows (slot_record store knows x.knows s.number s.made c.args.call c.args.reply) s) (sym lent)
-    (answer-moves store knows gate.gate.dir.dir.entries gate.gate.open_handles c.doubt-doubt.ensures.machine may.at.sees.seat.knows c.args.call c.args.reply s may.at.sound.decided_within may.before may.moves)
+    (answer-moves store knows gate.gate.dir.dir.entries gate.gate.open_handles c.reveal_invariant.ensures.machine may.at.sees.seat.knows c.args.call c.args.reply s may.at.sound.decided_within may.before may.moves)
 
 pub returns-clause-guarded : goal.returns-clause-guarded
 returns-clause-guarded g c =
@@ -51,7 +51,7 @@ returns-clause-guarded g c =
     let s = c.args.session.now in
     let may = c.requires.may in
     let own : SlotInvariant store slot = c.requires.guarded in
-    let low : gate.gate.counter < 2 ^ 32 = subst (λ (n : ℕ). n < 2 ^ 32) c.counter-counter.ensures c.counter-counter.type_inv in
+    let low : gate.gate.counter < 2 ^ 32 = c.reveal_invariant.ensures.counter in
     let lent = c.lend_seat-seat.result in
     let seat : lent ≡ may.at.sees.seat = seat_same lent may.at.sees.seat (sym c.lend_seat-seat.ensures.seat ∙ may.at.sees.is) in
     let back : c.answer_with-place.result.1 ≡ answered-seat store knows may.at.sees.seat s.number s.made c.args.call c.args.reply =
@@ -63,7 +63,7 @@ returns-clause-guarded g c =
     ∙ ap (λ (x : SlotValue). record x { seat = Some c.answer_with-place.result.1 }) c.lend_seat-seat.ensures.slot
     ∙ ap (λ (x : Sight SlotView). record slot { seat = Some x }) back in
     subst (SlotInvariant store) (sym is)
-    (answer-keeps store gate.gate knows gate.closing c.doubt-doubt.ensures.guarded c.doubt-doubt.ensures.entries c.doubt-doubt.ensures.machine low slot own c.args.call c.args.reply s may)
+    (answer-keeps store gate.gate knows gate.closing c.reveal_invariant.ensures.guarded c.reveal_invariant.ensures.entries c.reveal_invariant.ensures.machine low slot own c.args.call c.args.reply s may)
 
 pub returns-clause-whole : goal.returns-clause-whole
 returns-clause-whole g c =

@@ -7,8 +7,8 @@ use Rattle.call_steps.proofs.doubt_waits.held_up.Goals as goal
 pub answer-place-requires-clause-told : goal.answer-place-requires-clause-told
 answer-place-requires-clause-told g c =
     let v = c.args.gate.now in
-    held-told g.L.StoreName.store v.gate v.journal.knows v.closing c.args.session.now c.args.call c.args.cause c.requires.seen c.requires.cause c.doubt-doubt.ensures.guarded
-    c.doubt-doubt.ensures.machine c.requires.doubt c.requires.proper
+    held-told g.L.StoreName.store v.gate v.journal.knows v.closing c.args.session.now c.args.call c.args.cause c.requires.seen c.requires.cause c.reveal_invariant.ensures.guarded
+    c.reveal_invariant.ensures.machine c.requires.doubt c.requires.proper
 
 pub answer-place-requires-clause-moved : goal.answer-place-requires-clause-moved
 answer-place-requires-clause-moved g c =

@@ -15,7 +15,7 @@ returns-in_err-answer-clause-forecasts g c =
     let last = c.answer_first.new.session in
     let early = serves-after-catch_up g.F.StoreFile.state g.R.RpmbPort.state g.E.Entropy.is_reliable g.E.Entropy.faults (g.E.Entropy.faults last.entropy) g.L.StoreName.store
     c.args.call.now c.args.gate.now c.catch_up.new.self c.answer_first.new.gate first c.catch_up.new.session last c.answer_first.result c.requires.caller
-    c.catch_up.ensures.begins c.catch_up.ensures.sees c.catch_up.ensures.same c.catch_up.ensures.session c.answer_first.ensures.serves in
+    c.catch_up.ensures.whole c.catch_up.ensures.begins c.catch_up.ensures.sees c.catch_up.ensures.same c.catch_up.ensures.session c.answer_first.ensures.serves in
     starved-first g.F.StoreFile.state g.R.RpmbPort.state g.L.StoreName.store c.args.call.now c.args.gate.now c.answer_first.new.gate first last (g.E.Entropy.is_reliable first.entropy)
     (g.E.Entropy.faults first.entropy) (g.E.Entropy.faults last.entropy) c.from_residual.result c.from_residual.ensures.0 _
     (subst (λ r. ServesAlone g.F.StoreFile.state g.R.RpmbPort.state (g.E.Entropy.is_reliable first.entropy) (g.E.Entropy.faults first.entropy) (g.E.Entropy.faults last.entropy)
@@ -27,7 +27,7 @@ returns-in-Some-clause-forecasts g c =
     let last = c.answer_first.new.session in
     let early = serves-after-catch_up g.F.StoreFile.state g.R.RpmbPort.state g.E.Entropy.is_reliable g.E.Entropy.faults (g.E.Entropy.faults last.entropy) g.L.StoreName.store
     c.args.call.now c.args.gate.now c.catch_up.new.self c.answer_first.new.gate first c.catch_up.new.session last c.answer_first.result c.requires.caller
-    c.catch_up.ensures.begins c.catch_up.ensures.sees c.catch_up.ensures.same c.catch_up.ensures.session c.answer_first.ensures.serves in (
+    c.catch_up.ensures.whole c.catch_up.ensures.begins c.catch_up.ensures.sees c.catch_up.ensures.same c.catch_up.ensures.session c.answer_first.ensures.serves in (
       subst (λ r. ServesAlone g.F.StoreFile.state g.R.RpmbPort.state (g.E.Entropy.is_reliable first.entropy) (g.E.Entropy.faults first.entropy) (g.E.Entropy.faults last.entropy)
           g.L.StoreName.store c.args.call.now c.args.gate.now c.answer_first.new.gate first last r) (c.in_ok-answer.was ∙ ap (λ (o : Option PlacedReply). Ok o) c.in-Some.is) early,
       subst (λ (o : Option PlacedReply). IfSome o (λ answer. IsEarly answer.reply)) c.in-Some.is c.in_ok-answer.ensures.early,
@@ -41,14 +41,14 @@ returns-clause-forecasts g c =
     let gate = c.answer_first.new.gate in
     let early = serves-after-catch_up g.F.StoreFile.state g.R.RpmbPort.state g.E.Entropy.is_reliable g.E.Entropy.faults (g.E.Entropy.faults last.entropy) store
     c.args.call.now c.args.gate.now c.catch_up.new.self gate first c.catch_up.new.session last c.answer_first.result c.requires.caller
-    c.catch_up.ensures.begins c.catch_up.ensures.sees c.catch_up.ensures.same c.catch_up.ensures.session c.answer_first.ensures.serves in
+    c.catch_up.ensures.whole c.catch_up.ensures.begins c.catch_up.ensures.sees c.catch_up.ensures.same c.catch_up.ensures.session c.answer_first.ensures.serves in
     let left : IsLeft g.F.StoreFile.state g.R.RpmbPort.state store c.args.gate.now gate first last =
     subst (λ r. ServesAlone g.F.StoreFile.state g.R.RpmbPort.state (g.E.Entropy.is_reliable first.entropy) (g.E.Entropy.faults first.entropy) (g.E.Entropy.faults last.entropy)
     store c.args.call.now c.args.gate.now gate first last r) (c.in_ok-answer.was ∙ ap (λ (o : Option PlacedReply). Ok o) c.in_default.is) early in
     record {
       left = left;
-      calm = none-lands store gate c.doubt-doubt.ensures.guarded left.idle;
-      rising = names-rise store gate c.doubt-doubt.ensures.guarded;
+      calm = none-lands store gate c.reveal_invariant.ensures.guarded left.idle;
+      rising = names-rise store gate c.reveal_invariant.ensures.guarded;
       place = c.forecast.ensures.place;
       told = c.forecast.ensures.told;
     }

@@ -13,7 +13,7 @@ returns-in_err-answer-clause-serves g c =
     let last = c.answer_early.new.session in
     let early = serves-after-catch_up g.F.StoreFile.state g.R.RpmbPort.state g.E.Entropy.is_reliable g.E.Entropy.faults (g.E.Entropy.faults c.answer_early.new.session.entropy) g.L.StoreName.store
     c.args.call.now c.args.gate.now c.catch_up.new.self c.answer_early.new.gate c.args.session.now c.catch_up.new.session c.answer_early.new.session c.answer_early.result c.requires.caller
-    c.catch_up.ensures.begins c.catch_up.ensures.sees c.catch_up.ensures.same c.catch_up.ensures.session c.answer_early.ensures.serves in
+    c.catch_up.ensures.whole c.catch_up.ensures.begins c.catch_up.ensures.sees c.catch_up.ensures.same c.catch_up.ensures.session c.answer_early.ensures.serves in
     unserved-as g.F.StoreFile.state g.R.RpmbPort.state (g.E.Entropy.is_reliable first.entropy) (g.E.Entropy.faults first.entropy) (g.E.Entropy.faults last.entropy) g.L.StoreName.store
     c.args.call.now c.args.gate.now c.answer_early.new.gate first last c.from_residual.result c.from_residual.ensures.0
     (subst (λ r. ServesAlone g.F.StoreFile.state g.R.RpmbPort.state (g.E.Entropy.is_reliable first.entropy) (g.E.Entropy.faults first.entropy) (g.E.Entropy.faults last.entropy)
@@ -25,7 +25,7 @@ returns-in-Some-clause-serves g c =
     let last = c.answer_early.new.session in
     let early = serves-after-catch_up g.F.StoreFile.state g.R.RpmbPort.state g.E.Entropy.is_reliable g.E.Entropy.faults (g.E.Entropy.faults c.answer_early.new.session.entropy) g.L.StoreName.store
     c.args.call.now c.args.gate.now c.catch_up.new.self c.answer_early.new.gate c.args.session.now c.catch_up.new.session c.answer_early.new.session c.answer_early.result c.requires.caller
-    c.catch_up.ensures.begins c.catch_up.ensures.sees c.catch_up.ensures.same c.catch_up.ensures.session c.answer_early.ensures.serves in
+    c.catch_up.ensures.whole c.catch_up.ensures.begins c.catch_up.ensures.sees c.catch_up.ensures.same c.catch_up.ensures.session c.answer_early.ensures.serves in
     subst (λ r. ServesAlone g.F.StoreFile.state g.R.RpmbPort.state (g.E.Entropy.is_reliable first.entropy) (g.E.Entropy.faults first.entropy) (g.E.Entropy.faults last.entropy)
     g.L.StoreName.store c.args.call.now c.args.gate.now c.answer_early.new.gate first last r) (c.in_ok-answer.was ∙ ap (λ (o : Option PlacedReply). Ok o) c.in-Some.is) early
 
@@ -35,7 +35,7 @@ returns-clause-serves g c =
     let last = c.answer_early.new.session in
     let early = serves-after-catch_up g.F.StoreFile.state g.R.RpmbPort.state g.E.Entropy.is_reliable g.E.Entropy.faults (g.E.Entropy.faults c.answer_early.new.session.entropy) g.L.StoreName.store
     c.args.call.now c.args.gate.now c.catch_up.new.self c.answer_early.new.gate c.args.session.now c.catch_up.new.session c.answer_early.new.session c.answer_early.result c.requires.caller
-    c.catch_up.ensures.begins c.catch_up.ensures.sees c.catch_up.ensures.same c.catch_up.ensures.session c.answer_early.ensures.serves in
+    c.catch_up.ensures.whole c.catch_up.ensures.begins c.catch_up.ensures.sees c.catch_up.ensures.same c.catch_up.ensures.session c.answer_early.ensures.serves in
     let left =
     subst (λ r. ServesAlone g.F.StoreFile.state g.R.RpmbPort.state (g.E.Entropy.is_reliable first.entropy) (g.E.Entropy.faults first.entropy) (g.E.Entropy.faults last.entropy)
     g.L.StoreName.store c.args.call.now c.args.gate.now c.answer_early.new.gate first last r) (c.in_ok-answer.was ∙ ap (λ (o : Option PlacedReply). Ok o) c.in_default.is) early in
@@ -50,14 +50,14 @@ returns-in_err-answer-clause-at_once g c = λ misused.
     at_once_err g.L.StoreName.store c.args.call.now c.args.gate.now c.answer_early.new.gate c.args.session.now c.answer_early.new.session c.from_residual.result c.from_residual.ensures.0
     (subst (λ r. ServesAtOnce g.L.StoreName.store c.args.call.now c.args.gate.now c.answer_early.new.gate c.args.session.now c.answer_early.new.session r) c.in_err-answer.was
     (at_once_caught_up g.L.StoreName.store c.args.call.now c.args.gate.now c.catch_up.new.self c.answer_early.new.gate c.args.session.now c.catch_up.new.session c.answer_early.new.session
-    c.answer_early.result c.requires.caller c.catch_up.ensures.begins c.catch_up.ensures.sees c.catch_up.ensures.same c.catch_up.ensures.session c.answer_early.ensures.at_once misused))
+    c.answer_early.result c.requires.caller c.catch_up.ensures.whole c.catch_up.ensures.begins c.catch_up.ensures.sees c.catch_up.ensures.same c.catch_up.ensures.session c.answer_early.ensures.at_once misused))
 
 pub returns-in-Some-clause-at_once : goal.returns-in-Some-clause-at_once
 returns-in-Some-clause-at_once g c = λ misused.
     subst (λ r. ServesAtOnce g.L.StoreName.store c.args.call.now c.args.gate.now c.answer_early.new.gate c.args.session.now c.answer_early.new.session r)
     (c.in_ok-answer.was ∙ ap (λ (o : Option PlacedReply). Ok o) c.in-Some.is)
     (at_once_caught_up g.L.StoreName.store c.args.call.now c.args.gate.now c.catch_up.new.self c.answer_early.new.gate c.args.session.now c.catch_up.new.session c.answer_early.new.session
-    c.answer_early.result c.requires.caller c.catch_up.ensures.begins c.catch_up.ensures.sees c.catch_up.ensures.same c.catch_up.ensures.session c.answer_early.ensures.at_once misused)
+    c.answer_early.result c.requires.caller c.catch_up.ensures.whole c.catch_up.ensures.begins c.catch_up.ensures.sees c.catch_up.ensures.same c.catch_up.ensures.session c.answer_early.ensures.at_once misused)
 
 pub returns-clause-at_once : goal.returns-clause-at_once
 returns-clause-at_once g c = λ misused.
@@ -65,4 +65,4 @@ returns-clause-at_once g c = λ misused.
     (subst (λ r. ServesAtOnce g.L.StoreName.store c.args.call.now c.args.gate.now c.answer_early.new.gate c.args.session.now c.answer_early.new.session r)
     (c.in_ok-answer.was ∙ ap (λ (o : Option PlacedReply). Ok o) c.in_default.is)
     (at_once_caught_up g.L.StoreName.store c.args.call.now c.args.gate.now c.catch_up.new.self c.answer_early.new.gate c.args.session.now c.catch_up.new.session c.answer_early.new.session
-    c.answer_early.result c.requires.caller c.catch_up.ensures.begins c.catch_up.ensures.sees c.catch_up.ensures.same c.catch_up.ensures.session c.answer_early.ensures.at_once misused))
+    c.answer_early.result c.requires.caller c.catch_up.ensures.whole c.catch_up.ensures.begins c.catch_up.ensures.sees c.catch_up.ensures.same c.catch_up.ensures.session c.answer_early.ensures.at_once misused))

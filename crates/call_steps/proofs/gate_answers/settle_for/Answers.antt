@@ -18,6 +18,6 @@ returns-in-Err-clause-served g c =
           c.args.gate.now c.settle.new.gate c.in-Err.cause) (sym c.held_up.ensures.entropy) c.in-Err.ensures.held)
           c.held_up.ensures.reply;
       served =
-          served-from g.L.StoreName.store first s e.goes_on e.number e.made c.args.call c.held_up.result c.settle.new.gate c.held_up.new.gate c.held_up.new.session
+          served-from g.L.StoreName.store first s e.waits c.args.call c.held_up.result c.settle.new.gate c.held_up.new.gate c.held_up.new.session
           c.held_up.ensures.served;
     }

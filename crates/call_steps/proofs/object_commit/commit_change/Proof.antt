@@ -5,7 +5,6 @@ use Rattle.history_seats.specs.Changes.{TagVersions}
 use Rattle.call_steps.specs.ObjectCommits.{IsCommittable}
 use Rattle.rpmb_card.specs.declared.RpmbPort as rpmb_port
 use Rattle.rpmb_card.specs.contracts.RpmbPort.TheBound as rpmb_port_bound
-use Rattle.commit_gate.specs.Changes.{change_of}
 use Rattle.core_laws.specs.declared.StoreName as store_name
 use Rattle.core_laws.specs.contracts.StoreName.TheBound as store_name_bound
 use Rattle.tee_ports.specs.declared.Entropy as entropy
@@ -42,7 +41,7 @@ module _ (T1' : RattleType) (T2' : RattleType) (T3' : RattleType) (T4' : RattleT
     (F-StoreFile : store_file.Ghosts T1'.Denot) (F-StoreFile-dict : Dict) (R-RpmbPort : rpmb_port.Ghosts T2'.Denot) (R-RpmbPort-dict : Dict) (L-StoreName : store_name.Ghosts T3'.Denot) (L-StoreName-dict : Dict) (E-Entropy : entropy.Ghosts T4'.Denot) (E-Entropy-dict : Dict) (F-Destruct-dict : Dict) (R-Destruct-dict : Dict) (E-Destruct-dict : Dict) where
   -- what the `requires` says of the value n, and all that it says
   abbrev At : TagVersions → lts.Pre-type T1' T2' T3' T4' L1' L2' L3' L4' F-StoreFile F-StoreFile-dict R-RpmbPort R-RpmbPort-dict L-StoreName L-StoreName-dict E-Entropy E-Entropy-dict F-Destruct-dict R-Destruct-dict E-Destruct-dict
-  At n κs a = (IsCommittable L-StoreName.store a.0.now.gate a.0.now.journal.knows a.1.0.now a.1.1.0.now a.1.1.1.1.0 a.1.1.1.1.1.0 (change_of a.1.1.1.0) n) × reads.Pre T1' T2' T3' T4' L1' L2' L3' L4' F-StoreFile F-StoreFile-dict R-RpmbPort R-RpmbPort-dict L-StoreName L-StoreName-dict E-Entropy E-Entropy-dict F-Destruct-dict R-Destruct-dict E-Destruct-dict κs a
+  At n κs a = (IsCommittable L-StoreName.store a.0.now.gate a.0.now.journal.knows a.1.0.now a.1.1.0.now a.1.1.1.1.0 a.1.1.1.1.1.0 a.1.1.1.0 n) × reads.Pre T1' T2' T3' T4' L1' L2' L3' L4' F-StoreFile F-StoreFile-dict R-RpmbPort R-RpmbPort-dict L-StoreName L-StoreName-dict E-Entropy E-Entropy-dict F-Destruct-dict R-Destruct-dict E-Destruct-dict κs a
 
   abbrev Post : lts.Post-type T1' T2' T3' T4' L1' L2' L3' L4' F-StoreFile F-StoreFile-dict R-RpmbPort R-RpmbPort-dict L-StoreName L-StoreName-dict E-Entropy E-Entropy-dict F-Destruct-dict R-Destruct-dict E-Destruct-dict
   Post = reads.Post T1' T2' T3' T4' L1' L2' L3' L4' F-StoreFile F-StoreFile-dict R-RpmbPort R-RpmbPort-dict L-StoreName L-StoreName-dict E-Entropy E-Entropy-dict F-Destruct-dict R-Destruct-dict E-Destruct-dict

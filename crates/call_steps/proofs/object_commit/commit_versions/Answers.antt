@@ -1,8 +1,11 @@
 -- The slot lends its seat to the commit, and ends its stage as the gate ended that.
-use Rattle.std.proofs.Common.{Some, ap, refl, subst, ◌∙◌, ◌≡◌}
+use Rattle.std.proofs.Common.{Some, ap, refl, subst, sym, ◌∙◌, ◌≡◌}
+use Rattle.tee_types.specs.declared.reply.Reply.{Reply}
+use Rattle.store_model.specs.declared.event.Event.TheVariants.{Call as CallEvent}
+use Rattle.core_laws.specs.Sessions.{Extends}
+use Rattle.commit_gate.specs.CallerSessions.{session_value}
 use Rattle.commit_gate.specs.Causes.{counts}
-use Rattle.commit_gate.specs.Changes.{change_of}
-use Rattle.commit_gate.specs.GateEnds.{HandlesBehind, end_record, reply_told}
+use Rattle.commit_gate.specs.GateEnds.{HandlesBehind, end_record, mark_told, reply_told}
 use Rattle.object_slots.proofs.SlotViews.{shown_whole}
 use Rattle.call_steps.proofs.CountGrowth.{end_grows, end_still}
 use Rattle.call_steps.proofs.ObjectCommitSteps.{lent_ended, lent_number, lent_ready, lent_table}
@@ -11,20 +14,20 @@ use Rattle.call_steps.proofs.object_commit.commit_versions.Goals as goal
 
 pub commit-committed-requires-clause-table : goal.commit-committed-requires-clause-table
 commit-committed-requires-clause-table g c =
-    lent_table g.L.StoreName.store c.args.gate.now.gate c.args.gate.now.journal.knows c.args.slot.now c.args.session.now c.args.call c.args.own (change_of c.args.change) g.versions c.requires.1.1.1.1.0
+    lent_table g.L.StoreName.store c.args.gate.now.gate c.args.gate.now.journal.knows c.args.slot.now c.args.session.now c.args.call c.args.own c.args.change g.versions c.requires.1.1.1.1.0
     c.lend_seat-seat.result c.lend_seat-seat.ensures.seat
 
 pub commit-committed-requires-clause-ready : goal.commit-committed-requires-clause-ready
 commit-committed-requires-clause-ready g c =
-    lent_ready g.L.StoreName.store c.args.gate.now.gate c.args.gate.now.journal.knows c.args.slot.now c.args.session.now c.args.call c.args.own (change_of c.args.change) g.versions c.requires.1.1.1.1.0
+    lent_ready g.L.StoreName.store c.args.gate.now.gate c.args.gate.now.journal.knows c.args.slot.now c.args.session.now c.args.call c.args.own c.args.change g.versions c.requires.1.1.1.1.0
     c.lend_seat-seat.result c.lend_seat-seat.ensures.seat
 
 pub settle_slot-requires-clause-ended : goal.settle_slot-requires-clause-ended
 settle_slot-requires-clause-ended g c =
     let e = c.commit-committed.ensures in
-    lent_ended g.L.StoreName.store c.args.gate.now.gate c.args.gate.now.journal.knows c.args.slot.now c.args.session.now c.args.call c.args.own (change_of c.args.change) g.versions c.requires.1.1.1.1.0
+    lent_ended g.L.StoreName.store c.args.gate.now.gate c.args.gate.now.journal.knows c.args.slot.now c.args.session.now c.args.call c.args.own c.args.change g.versions c.requires.1.1.1.1.0
     c.lend_seat-seat.result c.lend_seat-seat.ensures.seat c.args.gate.now.closing c.lend_seat-seat.new.self c.commit-committed.result.slot c.commit-committed.result.end c.commit-committed.result.place c.commit-committed.new.self.journal.knows
-    c.doubt-doubt.ensures.guarded c.requires.1.1.1.1.1.0 c.requires.1.1.1.1.1.1.1.1.1.0 e.end c.lend_seat-seat.ensures.slot e.knows e.slot e.place
+    c.reveal_invariant.ensures.guarded c.requires.1.1.1.1.1.0 c.requires.1.1.1.1.1.1.1.1.1.0 e.end c.lend_seat-seat.ensures.slot e.knows e.slot e.place
 
 pub returns-clause-committed : goal.returns-clause-committed
 returns-clause-committed g c =
@@ -35,15 +38,18 @@ returns-clause-committed g c =
     let was = c.args.session.now in
     let seat = c.lend_seat-seat.result in
     let number : seat.knows.file ≡ c.args.slot.now.number =
-    lent_number g.L.StoreName.store old.gate old.journal.knows c.args.slot.now was c.args.call c.args.own (change_of c.args.change) g.versions c.requires.1.1.1.1.0 seat c.lend_seat-seat.ensures.seat in
+    lent_number g.L.StoreName.store old.gate old.journal.knows c.args.slot.now was c.args.call c.args.own c.args.change g.versions c.requires.1.1.1.1.0 seat c.lend_seat-seat.ensures.seat in
+    let told = c.reply-reply.ensures ∙ ap (reply_told end) c.requires.1.1.1.1.1.1.1.1.1.1.1.0 in
     record {
       end = end;
-      reply = c.reply-reply.ensures ∙ ap (reply_told end) c.requires.1.1.1.1.1.1.1.1.1.1.1.0;
+      reply = told;
       place = e.place;
-      extends = e.extends;
-      whole = e.whole;
-      number = ap (λ s. s.number) e.session;
-      made = ap (λ s. s.made) e.session;
+      appends = record {
+        extends = subst (λ (r : Reply). Extends g.L.StoreName.store (session_value was) (session_value c.commit-committed.new.session) (CallEvent was.number was.made c.args.call r (mark_told end))
+            c.commit-committed.result.place) (sym told) e.extends;
+        caller = e.whole;
+        made = ap (λ s. s.made) e.session;
+      };
       last = end_record end was.number was.made c.args.call c.args.own seat.knows g.versions;
       event = refl;
       tagged = ap (λ n. Some n) number;

@@ -20,8 +20,8 @@ close_handle-place-requires-clause-told g c = λ scenario answered.
     (c.close-reply.ensures.application ∙ ap (λ (x : Session). x.application) c.state_mut.ensures.value)
     (λ undone. absurd (true≢false (sym undone)))
     (λ m i matches. c.in-Done.ensures.told m i (matches.session ∙ sym c.state_mut.ensures.value)) in
-    ruled-alone store v.journal.knows v.gate.dir.dir.entries v.gate.open_handles (Close c.args.handle) Done (record s { state = after }) ruled c.doubt-doubt.ensures.machine scenario answered
-    (subst (λ (n : ℕ). n < 2 ^ 32) (c.counter-counter.ensures ∙ sym (c.doubt-doubt.ensures.guarded.tied.counter scenario answered)) c.counter-counter.type_inv)
+    ruled-alone store v.journal.knows v.gate.dir.dir.entries v.gate.open_handles (Close c.args.handle) Done (record s { state = after }) ruled c.reveal_invariant.ensures.machine scenario answered
+    (subst (λ (n : ℕ). n < 2 ^ 32) (sym (c.reveal_invariant.ensures.guarded.tied.counter scenario answered)) c.reveal_invariant.ensures.counter)
 
 pub close_handle-place-requires-clause-moved : goal.close_handle-place-requires-clause-moved
 close_handle-place-requires-clause-moved g c =
@@ -34,17 +34,14 @@ close_handle-place-requires-clause-moved g c =
     (c.close-reply.ensures.application ∙ ap (λ (x : Session). x.application) c.state_mut.ensures.value)
     (λ undone. absurd (true≢false (sym undone)))
     (λ m i matches. c.in-Done.ensures.told m i (matches.session ∙ sym c.state_mut.ensures.value)) in
-    ruled-moves store v.journal.knows v.gate.dir.dir.entries v.gate.open_handles (Close c.args.handle) Done (record s { state = after }) ruled c.doubt-doubt.ensures.machine c.requires.calm.within
+    ruled-moves store v.journal.knows v.gate.dir.dir.entries v.gate.open_handles (Close c.args.handle) Done (record s { state = after }) ruled c.reveal_invariant.ensures.machine c.requires.calm.within
 
 pub returns-in-Done-clause-served : goal.returns-in-Done-clause-served
 returns-in-Done-clause-served g c =
     let e = c.close_handle-place.ensures in
     let s = c.args.session.now in
     moved-served g.L.StoreName.store (Close c.args.handle) _ c.args.gate.now c.close_handle-place.new.self s c.close_handle-place.new.session c.close-reply.new.session (record {
-      caller = e.whole;
-      extends = e.extends;
-      number = ap (λ (x : CallerSession g.row.E.Denot). x.number) e.session;
-      made = ap (λ (x : CallerSession g.row.E.Denot). x.made) e.session;
+      appends = record { extends = e.extends; caller = e.whole; made = ap (λ (x : CallerSession g.row.E.Denot). x.made) e.session };
       place = e.place;
       knows = e.knows;
       spare = e.spare;

@@ -6,7 +6,7 @@ use Rattle.history_seats.specs.Changes.{IsFitting}
 use Rattle.core_laws.specs.Answered.{IsFairAt}
 use Rattle.commit_gate.specs.JournalCalls.{IsMovedBy}
 use Rattle.commit_gate.specs.CallerSessions.{CallerSession, landing_of_call}
-use Rattle.commit_gate.specs.Commits.{call_record}
+use Rattle.commit_gate.specs.Commits.{file_record}
 use Rattle.commit_gate.specs.Ended.{IsAppended}
 use Rattle.commit_gate.proofs.Endings.{moved_appended}
 use Rattle.commit_gate.proofs.commit_ends.end_doubtful.Goals as goal
@@ -18,17 +18,17 @@ append_call-requires-clause-moved g c =
     let doubted : ℕ → CallerSession g.row.E.Denot = λ place. record s { doubt = Some (record { place = place; landing = landing_of_call c.args.call }) } in
     let is : c.begin_doubt.new.self ≡ doubted (length knows.all) = c.begin_doubt.ensures ∙ ap doubted c.len.ensures in
     subst (λ (v : CallerSession g.row.E.Denot). IsMovedBy g.L.StoreName.store knows
-    (call_record v.number v.made c.args.call (NotAvailable c.args.cause) (Doubtful c.args.number) c.args.slot.knows g.N.VersionsName.versions) v) (sym is) c.requires.append.moves
+    (file_record v.number v.made c.args.call (NotAvailable c.args.cause) (Doubtful c.args.number) c.args.slot.knows g.N.VersionsName.versions) v) (sym is) c.requires.append.moves
 
 pub append_call-requires-clause-fitting : goal.append_call-requires-clause-fitting
 append_call-requires-clause-fitting g c =
     subst (λ (v : CallerSession g.row.E.Denot). IsFitting c.args.journal.now.knows
-    (call_record v.number v.made c.args.call (NotAvailable c.args.cause) (Doubtful c.args.number) c.args.slot.knows g.N.VersionsName.versions)) (sym c.begin_doubt.ensures) c.requires.append.fitting
+    (file_record v.number v.made c.args.call (NotAvailable c.args.cause) (Doubtful c.args.number) c.args.slot.knows g.N.VersionsName.versions)) (sym c.begin_doubt.ensures) c.requires.append.fitting
 
 pub append_call-requires-clause-fair : goal.append_call-requires-clause-fair
 append_call-requires-clause-fair g c = λ scenario.
     subst (λ (v : CallerSession g.row.E.Denot). IsFairAt g.L.StoreName.store scenario c.args.journal.now.knows.all
-    (call_record v.number v.made c.args.call (NotAvailable c.args.cause) (Doubtful c.args.number) c.args.slot.knows g.N.VersionsName.versions)) (sym c.begin_doubt.ensures) (c.requires.append.fair scenario)
+    (file_record v.number v.made c.args.call (NotAvailable c.args.cause) (Doubtful c.args.number) c.args.slot.knows g.N.VersionsName.versions)) (sym c.begin_doubt.ensures) (c.requires.append.fair scenario)
 
 pub returns-clause-appended : goal.returns-clause-appended
 returns-clause-appended g c =

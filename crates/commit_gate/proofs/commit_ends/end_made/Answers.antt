@@ -7,7 +7,7 @@ use Rattle.history_seats.specs.Changes.{IsFitting}
 use Rattle.core_laws.specs.Answered.{IsFairAt}
 use Rattle.commit_gate.specs.JournalCalls.{IsMovedBy}
 use Rattle.commit_gate.specs.CallerSessions.{CallerSession}
-use Rattle.commit_gate.specs.Commits.{call_record, made_versions}
+use Rattle.commit_gate.specs.Commits.{file_record, made_versions}
 use Rattle.commit_gate.specs.Ended.{IsAppended}
 use Rattle.commit_gate.specs.SessionMoves.{moved_by}
 use Rattle.commit_gate.proofs.Endings.{moved_appended}
@@ -17,21 +17,21 @@ pub append_call-requires-clause-moved : goal.append_call-requires-clause-moved
 append_call-requires-clause-moved g c =
     let gives = sym c.note_call-call.ensures.gives in
     subst (λ (x : CallerSession g.row.E.Denot × Call × Reply). IsMovedBy g.L.StoreName.store c.args.journal.now.knows
-    (call_record x.0.number x.0.made x.1 x.2 (Made c.args.number) c.args.slot.knows (made_versions g.N.VersionsName.versions)) x.0)
+    (file_record x.0.number x.0.made x.1 x.2 (Made c.args.number) c.args.slot.knows (made_versions g.N.VersionsName.versions)) x.0)
     (λ i. (sym c.apply.ensures i, (gives i).0, (gives i).1)) c.requires.append.moves
 
 pub append_call-requires-clause-fitting : goal.append_call-requires-clause-fitting
 append_call-requires-clause-fitting g c =
     let gives = sym c.note_call-call.ensures.gives in
     subst (λ (x : CallerSession g.row.E.Denot × Call × Reply). IsFitting c.args.journal.now.knows
-    (call_record x.0.number x.0.made x.1 x.2 (Made c.args.number) c.args.slot.knows (made_versions g.N.VersionsName.versions)))
+    (file_record x.0.number x.0.made x.1 x.2 (Made c.args.number) c.args.slot.knows (made_versions g.N.VersionsName.versions)))
     (λ i. (sym c.apply.ensures i, (gives i).0, (gives i).1)) c.requires.append.fitting
 
 pub append_call-requires-clause-fair : goal.append_call-requires-clause-fair
 append_call-requires-clause-fair g c = λ scenario.
     let gives = sym c.note_call-call.ensures.gives in
     subst (λ (x : CallerSession g.row.E.Denot × Call × Reply). IsFairAt g.L.StoreName.store scenario c.args.journal.now.knows.all
-    (call_record x.0.number x.0.made x.1 x.2 (Made c.args.number) c.args.slot.knows (made_versions g.N.VersionsName.versions)))
+    (file_record x.0.number x.0.made x.1 x.2 (Made c.args.number) c.args.slot.knows (made_versions g.N.VersionsName.versions)))
     (λ i. (sym c.apply.ensures i, (gives i).0, (gives i).1)) (c.requires.append.fair scenario)
 
 pub returns-clause-appended : goal.returns-clause-appended

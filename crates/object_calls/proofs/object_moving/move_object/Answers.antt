@@ -2,7 +2,7 @@ use Rattle.std.proofs.Common.{◌≡◌, ℕ, Some, sym, subst}
 use Rattle.std.proofs.lemmas.Result.{IfErr-weaker, on_ok_weaker}
 use Rattle.store_commit.specs.View.{DirValue}
 use Rattle.store_commit.specs.EntryForms.{Fits}
-use Rattle.store_commit.specs.declared.change.EntryChange.TheVariants.{Put as PutChange}
+use Rattle.crash_core.specs.declared.change.EntryChange.TheVariants.{Put as PutChange}
 use Rattle.crash_core.specs.MigrationLaws.{moved_entry}
 use Rattle.node_image.specs.References.{current_format}
 use Rattle.store_commit.specs.Causes.{counts}

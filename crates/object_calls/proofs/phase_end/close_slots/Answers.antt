@@ -74,9 +74,9 @@ returns-clause-leaves g c =
     (sym c.taken_files-files.result.ok.0 ∙ c.taken_files-files.ensures.len ∙ c.retire_slots-places.ensures.many)
     (placed_taken store later slots state last_file c.retire_slots-places.result.items files c.taken_files-files.ensures.files c.retire_slots-places.ensures.placed)
     c.retire_slots-places.ensures.recorded c.requires.opens
-    (subst (λ (x : GateValue g.row.F.Denot g.row.R.Denot). DoubtStands (gate_sides state port x) x.doubt) is c.doubt-doubt.ensures.stands)
-    (subst (λ (x : GateValue g.row.F.Denot g.row.R.Denot). AreHolds x.dir.dir.entries x.holds) is c.doubt-doubt.ensures.held)
-    c.doubt-doubt.result (subst (λ (x : GateValue g.row.F.Denot g.row.R.Denot). c.doubt-doubt.result ≡ option_map (λ d. d.number) x.doubt) is c.doubt-doubt.ensures.number)
+    (subst (λ (x : GateValue g.row.F.Denot g.row.R.Denot). DoubtStands (gate_sides state port x) x.doubt) is c.reveal_invariant.ensures.stands)
+    (subst (λ (x : GateValue g.row.F.Denot g.row.R.Denot). AreHolds x.dir.dir.entries x.holds) is c.reveal_invariant.ensures.held)
+    c.doubt-doubt.result (subst (λ (x : GateValue g.row.F.Denot g.row.R.Denot). c.doubt-doubt.result ≡ option_map (λ d. d.number) x.doubt) is c.doubt-doubt.ensures)
     c.close-dir.result.0 c.close-dir.result.1 c.put_together-files.result.items
     (ap (λ p. p.0) c.close-dir.ensures.gives ∙ ap (λ (x : GateValue g.row.F.Denot g.row.R.Denot). x.dir.file) is)
     (ap (λ p. p.1) c.close-dir.ensures.gives ∙ ap (λ (x : GateValue g.row.F.Denot g.row.R.Denot). x.host.port) is)

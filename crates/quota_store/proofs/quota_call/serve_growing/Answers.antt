@@ -2,7 +2,7 @@
 use Rattle.std.proofs.Common.{◌∙◌, Ok, Result, Some, inl, inr, refl, sym, subst}
 use Rattle.app_totals.specs.declared.numbers.Forecast.{Forecast}
 use Rattle.shared_store.proofs.CarriedAttempts.{carries-grown}
-use Rattle.shared_store.proofs.Waiting.{waits-then}
+use Rattle.shared_store.proofs.GoingOn.{waits-then}
 use Rattle.shared_store.specs.CallerSessions.{CallerSession}
 use Rattle.shared_store.specs.ForeseenCalls.{EndsForecast, IsAnsweredEarly, IsForeseen}
 use Rattle.shared_store.specs.declared.PlacedReply.{PlacedReply}

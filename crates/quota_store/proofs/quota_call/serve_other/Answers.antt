@@ -1,9 +1,11 @@
 -- The call is served, and is within any limit.
 use Rattle.std.proofs.Common.{Some, subst}
-use Rattle.shared_store.specs.Attempts.{IsAnswered, IsWaiting}
+use Rattle.shared_store.specs.Attempts.{IsAnswered}
+use Rattle.shared_store.specs.SessionEvents.{IsWaiting}
 use Rattle.shared_store.specs.CallerSessions.{CallerSession}
 use Rattle.shared_store.specs.SharedCounts.{CarriesDraws}
-use Rattle.quota_store.proofs.LockedCalls.{answered-other, carries-starved, ends-starved, waiting-limits}
+use Rattle.shared_store.proofs.QuotaCallers.{waiting-limits}
+use Rattle.quota_store.proofs.LockedCalls.{answered-other, carries-starved, ends-starved}
 use Rattle.quota_store.proofs.quota_call.serve_other.Goals as goal
 
 pub returns-in_err-answer-clause-ends : goal.returns-in_err-answer-clause-ends

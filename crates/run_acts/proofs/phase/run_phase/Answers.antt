@@ -61,10 +61,10 @@ returns-in-Ok-serve_opened-clause-ends g c =
         keeps = mounted.keeps;
         passed = mounted.passed;
         objects = refl;
-        room = subst (λ (found : Option ℕ). IfNone found (AreRoomFor c.args.quotas.now c.args.applications.now (objects_in of_file of_port keys opened))) c.in_default-find_excess.is (c.find_excess.ensures.room keys);
+        room = subst (λ (found : Option ℕ). IfNone found (AreRoomFor c.args.phase.now.quotas.now c.args.phase.now.applications.now (objects_in of_file of_port keys opened))) c.in_default-find_excess.is (c.find_excess.ensures.room keys);
         closed = bench_state of_file of_port closed.bench;
-        serves = serves_where of_file of_port (g.E.Entropy.is_reliable c.mount_with_memory.new.entropy) (g.E.Entropy.is_reliable c.args.entropy.now) keys c.args.applications.now
-            c.args.quotas.now c.args.arms.now c.args.mode c.args.calls.now opened (bench_state of_file of_port closed.bench) closed.history.events served.refused.items c.mount_with_memory.ensures.reliable
+        serves = serves_where of_file of_port (g.E.Entropy.is_reliable c.mount_with_memory.new.entropy) (g.E.Entropy.is_reliable c.args.entropy.now) keys c.args.phase.now.applications.now
+            c.args.phase.now.quotas.now c.args.phase.now.arms.now c.args.phase.now.mode c.args.phase.now.calls.now opened (bench_state of_file of_port closed.bench) closed.history.events served.refused.items c.mount_with_memory.ensures.reliable
             c.in-Ok-serve_opened.ensures.serves;
         disarms = c.disarm_bench.ensures.disarms;
         with_memory = fed_disarmed (bench_state of_file of_port c.args.bench) (bench_state of_file of_port closed.bench) (bench_state of_file of_port c.disarm_bench.result) with_memory
@@ -80,7 +80,7 @@ returns-in_default-clause-refused g c =
     let of_file = g.F.StoreFile.state in
     let of_port = g.R.RpmbPort.state in
     let a = c.args in
-    given_up_within of_file of_port a.keys.now a.applications.now a.quotas.now a.arms.now a.mode a.calls.now (bench_state of_file of_port a.bench) (bench_state of_file of_port c.starved_bench.result.bench)
+    given_up_within of_file of_port a.keys.now a.phase.now.applications.now a.phase.now.quotas.now a.phase.now.arms.now a.phase.now.mode a.phase.now.calls.now (bench_state of_file of_port a.bench) (bench_state of_file of_port c.starved_bench.result.bench)
     c.starved_bench.result.fault _ _
     (inr (record {
       fault_is = c.starved_bench.ensures.fault;
@@ -96,8 +96,8 @@ returns-in_err-opening-clause-refused g c =
     let a = c.args in
     let p = err_from_is_err_and c.from_residual.result c.from_residual.ensures.1 in
     rw (p.1, p.2)
-    (given_up_within of_file of_port a.keys.now a.applications.now a.quotas.now a.arms.now a.mode a.calls.now (bench_state of_file of_port a.bench) _ _ _ _
-    (c.in_err-opening.ensures.refused a.applications.now a.arms.now a.mode (admitted [] a.calls.now)))
+    (given_up_within of_file of_port a.keys.now a.phase.now.applications.now a.phase.now.quotas.now a.phase.now.arms.now a.phase.now.mode a.phase.now.calls.now (bench_state of_file of_port a.bench) _ _ _ _
+    (c.in_err-opening.ensures.refused a.phase.now.applications.now a.phase.now.arms.now a.phase.now.mode (admitted [] a.phase.now.calls.now)))
 
 pub returns-in-Ok-2-clause-refused : goal.returns-in-Ok-2-clause-refused
 returns-in-Ok-2-clause-refused g c =
@@ -109,9 +109,9 @@ returns-in-Ok-2-clause-refused g c =
     let served = c.in-Ok-serve_opened.served in
     let left = bench_state of_file of_port served.closed.bench in
     let halted = c.starved_bench-in-Ok-2.result in
-    starved_within of_file of_port a.keys.now a.applications.now a.quotas.now a.arms.now a.mode a.calls.now (bench_state of_file of_port a.bench) (bench_state of_file of_port halted.bench) halted.fault _ _ opened left
+    starved_within of_file of_port a.keys.now a.phase.now.applications.now a.phase.now.quotas.now a.phase.now.arms.now a.phase.now.mode a.phase.now.calls.now (bench_state of_file of_port a.bench) (bench_state of_file of_port halted.bench) halted.fault _ _ opened left
     c.starved_bench-in-Ok-2.ensures.fault mounted.mounts mounted.keeps mounted.undrawn
-    (served_opened of_file of_port a.keys.now a.applications.now a.arms.now a.mode a.calls.now a.quotas.now (g.E.Entropy.is_reliable c.mount_with_memory.new.entropy) opened left served.closed.history.events
+    (served_opened of_file of_port a.keys.now a.phase.now.applications.now a.phase.now.arms.now a.phase.now.mode a.phase.now.calls.now a.phase.now.quotas.now (g.E.Entropy.is_reliable c.mount_with_memory.new.entropy) opened left served.closed.history.events
     served.refused.items c.in-Ok-serve_opened.ensures.serves)
     c.starved_bench-in-Ok-2.ensures.disarms
 
@@ -123,7 +123,7 @@ returns-clause-refused g c =
     let opened : OpeningValue g.row.F.Denot g.row.R.Denot = c.in_ok-opening.opening in
     let mounted = c.in_ok-opening.ensures in
     let halted = c.starved_bench-in-Err.result in
-    starved_within of_file of_port a.keys.now a.applications.now a.quotas.now a.arms.now a.mode a.calls.now (bench_state of_file of_port a.bench) (bench_state of_file of_port halted.bench) halted.fault _ _ opened
+    starved_within of_file of_port a.keys.now a.phase.now.applications.now a.phase.now.quotas.now a.phase.now.arms.now a.phase.now.mode a.phase.now.calls.now (bench_state of_file of_port a.bench) (bench_state of_file of_port halted.bench) halted.fault _ _ opened
     (bench_state of_file of_port c.in-Err.bench) c.starved_bench-in-Err.ensures.fault mounted.mounts mounted.keeps mounted.undrawn c.in-Err.ensures.early c.starved_bench-in-Err.ensures.disarms
 
 pub returns-in_default-clause-drawn : goal.returns-in_default-clause-drawn

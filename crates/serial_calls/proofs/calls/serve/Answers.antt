@@ -26,14 +26,14 @@ returns-in_err-answer-clause-serves g c =
     let p = err_from_is_err_and c.from_residual-in_err-answer.result c.from_residual-in_err-answer.ensures.1 in
     rw (p.1)
     (unserved_serves g.F.StoreFile.state g.R.RpmbPort.state g.E.Entropy.faults g.L.StoreName.store c.args.gate.now c.reserve.new.self alone.new.gate c.args.slots.now.items
-    c.args.session.now alone.new.session c.reserve.ensures.gate c.reserve.ensures.knows _ alone.ensures.draws.counted c.doubt-doubt.ensures.guarded.card_key c.doubt-doubt.ensures.stands c.requires.slots c.args.call.now _ p.0
+    c.args.session.now alone.new.session c.reserve.ensures.gate c.reserve.ensures.knows _ alone.ensures.draws.counted c.reveal_invariant.ensures.guarded.card_key c.reveal_invariant.ensures.stands c.requires.slots c.args.call.now _ p.0
     c.in_err-answer.ensures.serves)
 
 pub returns-in-Some-clause-serves : goal.returns-in-Some-clause-serves
 returns-in-Some-clause-serves g c =
     let alone = c.answer_alone in
     alone_serves g.F.StoreFile.state g.R.RpmbPort.state g.E.Entropy.faults g.L.StoreName.store c.args.gate.now c.reserve.new.self alone.new.gate c.args.slots.now.items
-    c.args.session.now alone.new.session c.reserve.ensures.gate c.reserve.ensures.knows _ alone.ensures.draws.counted c.doubt-doubt.ensures.guarded.card_key c.doubt-doubt.ensures.stands c.requires.slots c.args.call.now c.in-Some.answer _
+    c.args.session.now alone.new.session c.reserve.ensures.gate c.reserve.ensures.knows _ alone.ensures.draws.counted c.reveal_invariant.ensures.guarded.card_key c.reveal_invariant.ensures.stands c.requires.slots c.args.call.now c.in-Some.answer _
     (subst
     (λ (o : Option PlacedReply). ServesAlone g.F.StoreFile.state g.R.RpmbPort.state (g.E.Entropy.is_reliable c.args.session.now.entropy) (g.E.Entropy.faults c.args.session.now.entropy) (g.E.Entropy.faults alone.new.session.entropy) {X = Unit {0}} g.L.StoreName.store c.args.call.now c.reserve.new.self alone.new.gate c.args.session.now alone.new.session (Ok o))
     c.in-Some.is c.in_ok-answer.ensures.serves)
@@ -60,8 +60,7 @@ returns-in_err-reserve-2-clause-serves g c =
     let p = err_from_is_err_and c.from_residual-in_err-reserve-2.result c.from_residual-in_err-reserve-2.ensures.1 in
     rw (p.1)
     (none_serves of_file of_port g.E.Entropy.faults store c.args.gate.now c.reserve.new.self c.reserve-2.new.self c.args.slots.now.items c.args.session.now alone.new.session
-    c.reserve.ensures.gate c.reserve.ensures.knows (Unit {0}) alone.ensures.draws.counted c.doubt-doubt.ensures.guarded.card_key c.doubt-doubt.ensures.stands c.requires.slots c.args.call.now _ p.0 settled held left.calm.caller left.number left.made
-    left.goes_on)
+    c.reserve.ensures.gate c.reserve.ensures.knows (Unit {0}) alone.ensures.draws.counted c.reveal_invariant.ensures.guarded.card_key c.reveal_invariant.ensures.stands c.requires.slots c.args.call.now _ p.0 settled held left.waits)
 
 pub serve_object-requires-clause-ready : goal.serve_object-requires-clause-ready
 serve_object-requires-clause-ready g c =
@@ -82,7 +81,7 @@ serve_object-requires-clause-ready g c =
     let after = c.reserve-2.new.self in
     let idle : after.gate.doubt ≡ None = ap (λ (x : GateValue g.row.F.Denot g.row.R.Denot). x.doubt) c.reserve-2.ensures.gate ∙ left.idle in
     let sides = gate_sides of_file of_port after.gate in
-    let keyed : after.gate.host.key ≡ key = c.doubt-settled.ensures.guarded.card_key in
+    let keyed : after.gate.host.key ≡ key = c.reveal_invariant-2.ensures.guarded.card_key in
     let room = c.in_ok-reserve-2.ensures.room in
     record {
       names = room.0;
@@ -94,7 +93,7 @@ serve_object-requires-clause-ready g c =
       known = record {
         keyed = keyed;
         counted = λ card has.
-            settled_counts sides (subst (DoubtStands sides) idle c.doubt-settled.ensures.stands) card
+            settled_counts sides (subst (DoubtStands sides) idle c.reveal_invariant-2.ensures.stands) card
             (subst (λ (k : List ℕ). HasCard (of_port after.gate.host.port) k card) (sym keyed) has);
       };
     }
@@ -120,7 +119,7 @@ returns-clause-serves g c =
     (settled_holds of_file of_port c.reserve.new.self alone.new.gate left.settled (room_holds c.args.gate.now.gate c.reserve.new.self.gate c.reserve.ensures.gate held)) in
     let done = c.serve_object in
     object_serves of_file of_port g.E.Entropy.faults store c.args.gate.now c.reserve-2.new.self done.new.gate c.args.slots.now.items done.new.slots.items c.args.session.now alone.new.session
-    done.new.session settled held alone.ensures.draws.counted left.number left.made left.goes_on c.args.call.now _ done.result done.ensures.serves
+    done.new.session settled held alone.ensures.draws.counted left.waits c.args.call.now _ done.result done.ensures.serves
 
 pub returns-in_err-answer-clause-at_once : goal.returns-in_err-answer-clause-at_once
 returns-in_err-answer-clause-at_once g c = λ misused.

@@ -1,12 +1,12 @@
 -- The gate ended the create, of which making the object ended as it did.
-use Rattle.std.proofs.Common.{ap, subst, sym, ℕ, ◌∙◌, ◌≡◌}
+use Rattle.std.proofs.Common.{ap, length, subst, sym, ℕ, ◌∙◌, ◌≡◌, ◌≤◌}
 use Rattle.call_steps.specs.CallerSessions.{CallerSession}
 use Rattle.serial_calls.proofs.CreateAnswers.{finished_answered}
 use Rattle.serial_calls.proofs.ClearSlots.{shown_calm}
 use Rattle.serial_calls.proofs.create_call.answer.Goals as goal
 use Rattle.serial_calls.specs.Created.{IsAnswered, TriedCause}
 use Rattle.serial_calls.specs.CreateEnds.{IsFinished}
-use Rattle.serial_calls.specs.Rules.{NewObject}
+use Rattle.serial_calls.specs.Rules.{NewObject, new_object}
 use Rattle.serial_calls.specs.Seating.{reseated}
 use Rattle.disk_model.specs.State.{FileState}
 use Rattle.call_steps.specs.GuardedGates.{GuardedGateValue}
@@ -24,7 +24,7 @@ returns-clause-answered g c =
     let mid = c.make_unless_spent.new.session in
     let now = c.finish.new.session in
     let made = c.make_unless_spent.new.slot in
-    let object : NewObject = record { id = c.args.id; flags = c.args.flags; attributes = c.args.attributes.now; bytes = c.args.bytes.now } in
+    let object : NewObject = new_object c.args.call in
     let place = c.args.place.now in
     let Was = g.E.Entropy.is_reliable was.entropy in
     let Mid = g.E.Entropy.is_reliable mid.entropy in
@@ -46,3 +46,9 @@ returns-clause-answered g c =
     (sym c.finish.ensures.file)
     (finished_answered of_file of_port faults store (reseated store slot.number gate) c.finish.new.gate slot.number slot.file made.file was mid now drawn object place Was Mid lasts c.finish.result
     c.in_ok-made.made finished cause)
+
+pub make_unless_spent-requires-clause-short : goal.make_unless_spent-requires-clause-short
+make_unless_spent-requires-clause-short g c = subst (λ (n : NewObject). length n.attributes ≤ 2048) (sym c.of_call-object.ensures) c.requires.may.short
+
+pub make_unless_spent-requires-clause-few : goal.make_unless_spent-requires-clause-few
+make_unless_spent-requires-clause-few g c = subst (λ (n : NewObject). length n.bytes ≤ 1044480) (sym c.of_call-object.ensures) c.requires.may.few

@@ -4,7 +4,7 @@ use Rattle.serial_calls.proofs.CreateAnswers.{answered_number}
 use Rattle.serial_calls.proofs.create_call.create.Goals as goal
 use Rattle.serial_calls.specs.Created.{IsAnsweredOrNot}
 use Rattle.serial_calls.specs.FileReserving.{given_back}
-use Rattle.serial_calls.specs.Rules.{NewObject}
+use Rattle.serial_calls.specs.Rules.{NewObject, new_object}
 use Rattle.call_steps.specs.SlotValues.{SlotValue}
 
 pub returns-clause-creates : goal.returns-clause-creates
@@ -18,7 +18,7 @@ returns-clause-creates g c =
     let now = c.answer-answer.new.session in
     let behind = c.answer-answer.new.gate in
     let after = c.answer-answer.new.slot.file in
-    let object : NewObject = record { id = c.args.id; flags = c.args.flags; attributes = c.args.attributes.now; bytes = c.args.bytes.now } in
+    let object : NewObject = new_object c.args.call in
     let Reliable = g.E.Entropy.is_reliable was.entropy in
     let drew = g.E.Entropy.faults was.entropy in
     let draws = g.E.Entropy.faults now.entropy in

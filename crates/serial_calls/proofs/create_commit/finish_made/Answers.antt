@@ -3,7 +3,7 @@ use Rattle.std.proofs.Common.{ap, subst, sym, ℕ, ◌∙◌}
 use Rattle.serial_calls.proofs.create_commit.finish_made.Goals as goal
 use Rattle.serial_calls.specs.CreateEnds.{IsCommittableAs}
 use Rattle.serial_calls.specs.CreateEnds.IsCommittableOrSpent.{Committable}
-use Rattle.serial_calls.specs.Rules.{NewObject}
+use Rattle.serial_calls.specs.Rules.{NewObject, new_object}
 use Rattle.crash_core.specs.EntryLists.{IsUnnamed}
 use Rattle.call_steps.specs.GuardedGates.{GuardedGateValue}
 use Rattle.call_steps.specs.Fits.{FitsGate}
@@ -13,7 +13,7 @@ use Rattle.std.specs.Prelude.{◌<◌}
 
 pub returns-then-counter-lt4294967295-clause-finished : goal.returns-then-counter-lt4294967295-clause-finished
 returns-then-counter-lt4294967295-clause-finished g c =
-    let object : NewObject = record { id = c.args.id; flags = c.args.flags; attributes = c.args.attributes.now; bytes = c.args.bytes.now } in
+    let object : NewObject = new_object c.args.call in
     let was = c.args.session.now in
     let now = c.commit_created.new.session in
     Committable

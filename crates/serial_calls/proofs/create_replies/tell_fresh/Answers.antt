@@ -30,7 +30,7 @@ answer_with-place-requires-clause-told g c =
     let lent : c.lend_seat-seat.result ≡ fresh.seat = seat_same c.lend_seat-seat.result fresh.seat (sym c.lend_seat-seat.ensures.seat ∙ fresh.is) in
     subst (λ (p : Sight SlotView × Reply). MayBeTold store gate.gate.doubt gate.gate.dir.dir.entries knows p.0.knows s.number s.made c.args.call p.1)
     (λ i. (sym lent i, sym c.reply.ensures i))
-    (told_may_view store gate.gate knows gate.closing c.doubt-doubt.ensures.guarded c.requires.idle c.doubt-doubt.ensures.entries s c.requires.calm c.args.call c.requires.create c.requires.makes
+    (told_may_view store gate.gate knows gate.closing c.reveal_invariant.ensures.guarded c.requires.idle c.reveal_invariant.ensures.entries s c.requires.calm c.args.call c.requires.create c.requires.makes
     c.args.slot.now c.requires.unnamed fresh c.requires.vacant c.args.why c.requires.may)
 
 pub answer_with-place-requires-clause-moved : goal.answer_with-place-requires-clause-moved
@@ -43,7 +43,7 @@ answer_with-place-requires-clause-moved g c =
     let lent : c.lend_seat-seat.result ≡ fresh.seat = seat_same c.lend_seat-seat.result fresh.seat (sym c.lend_seat-seat.ensures.seat ∙ fresh.is) in
     subst (λ (p : Sight SlotView × Reply). IsMovedBy store knows (slot_record store knows p.0.knows s.number s.made c.args.call p.1) s)
     (λ i. (sym lent i, sym c.reply.ensures i))
-    (told_moves_view store gate.gate knows gate.closing c.doubt-doubt.ensures.guarded c.requires.idle c.doubt-doubt.ensures.entries s c.requires.calm c.args.call c.requires.create c.requires.makes
+    (told_moves_view store gate.gate knows gate.closing c.reveal_invariant.ensures.guarded c.requires.idle c.reveal_invariant.ensures.entries s c.requires.calm c.args.call c.requires.create c.requires.makes
     c.args.slot.now c.requires.unnamed fresh c.requires.vacant c.args.why c.requires.may)
 
 pub returns-clause-guarded : goal.returns-clause-guarded
@@ -67,7 +67,7 @@ returns-clause-guarded g c =
     ∙ ap (λ (x : SlotValue). record x { seat = Some c.answer_with-place.result.1 }) c.lend_seat-seat.ensures.slot
     ∙ ap (λ (x : Sight SlotView). record slot { seat = Some x }) back in
     subst (SlotInvariant store) (sym is)
-    (told_keeps store gate.gate knows gate.closing c.doubt-doubt.ensures.guarded c.requires.idle c.doubt-doubt.ensures.entries s c.requires.calm call c.requires.create c.requires.makes slot c.requires.unnamed fresh
+    (told_keeps store gate.gate knows gate.closing c.reveal_invariant.ensures.guarded c.requires.idle c.reveal_invariant.ensures.entries s c.requires.calm call c.requires.create c.requires.makes slot c.requires.unnamed fresh
     c.requires.vacant c.args.why c.requires.may)
 
 pub returns-clause-whole : goal.returns-clause-whole

@@ -33,4 +33,4 @@ returns-clause-fresh g c =
     ∙ ap (λ (s : SlotValue). record s { seat = Some c.reseat-seat.result }) c.lend_seat-seat.ensures.slot
     ∙ ap (λ (x : Sight SlotView). record slot { seat = Some x }) seat in
     subst (λ (p : GateView × ℕ × SlotValue). IsFreshSlot store p.0 p.1 p.2) (λ i. (sym seen i, sym counter i, sym is i))
-    (seated_fresh store gate.gate knows gate.closing c.doubt-doubt.ensures.guarded c.requires.idle slot c.requires.unnamed c.requires.empty lent was c.reseat-seat.ensures.agreed generation next)
+    (seated_fresh store gate.gate knows gate.closing c.reveal_invariant.ensures.guarded c.requires.idle slot c.requires.unnamed c.requires.empty lent was c.reseat-seat.ensures.agreed generation next)

@@ -25,4 +25,4 @@ returns-clause-clear g c =
     ∙ ap (λ (s : SlotValue). record s { seat = Some c.in-Some.seat }) (c.lend_seat-seat.ensures.slot ∙ ap (λ (s : SlotValue). record s { seat = None }) c.let_go.ensures)
     ∙ ap (λ (o : Option (Sight SlotView)). record slot { seat = o; holds = free; doubt = None }) c.in-Some.ensures.slot in
     subst (IsClearSlot store) (sym is)
-    (shown_clear store gate.gate knows gate.closing c.doubt-doubt.ensures.guarded c.requires.idle slot c.requires.unnamed c.requires.guarded lent was _ c.catch_up.ensures.agreed)
+    (shown_clear store gate.gate knows gate.closing c.reveal_invariant.ensures.guarded c.requires.idle slot c.requires.unnamed c.requires.guarded lent was _ c.catch_up.ensures.agreed)

@@ -9,7 +9,6 @@ use Rattle.call_steps.specs.declared.SessionMove.TheVariants.{Closes}
 use Rattle.call_steps.specs.ObjectCommits.{IsCommittable}
 use Rattle.call_steps.specs.NameLaws.{cleared_versions}
 use Rattle.call_steps.specs.SlotValues.{SlotValue}
-use Rattle.call_steps.specs.Changes.{change_of}
 use Rattle.tee_types.specs.declared.call.Call.TheVariants.{Delete}
 use Rattle.tee_types.specs.declared.reply.Reply.TheVariants.{Done}
 use Rattle.serial_calls.proofs.CommittableNames.{delete-committable, no-stage}
@@ -30,10 +29,10 @@ commit_change-requires-clause-committable g c =
     let met = c.catch_up_entry.ensures in
     let slot = c.catch_up_entry.new.slot in
     subst (λ (x : GuardedGateValue g.row.F.Denot g.row.R.Denot × CallerSession g.row.E.Denot × SlotValue).
-    (versions : TagVersions) × IsCommittable store x.0.gate x.0.journal.knows x.2 x.1 (Delete c.args.handle) Done (change_of (delete_change found)) versions)
+    (versions : TagVersions) × IsCommittable store x.0.gate x.0.journal.knows x.2 x.1 (Delete c.args.handle) Done (delete_change found) versions)
     (λ i. (sym met.gate i, sym (met.calm c.requires.calm) i, sym c.free.ensures i)) (
       cleared_versions met.at.0,
-      delete-committable store gate.gate gate.journal.knows gate.closing c.doubt-doubt.ensures.guarded c.doubt-doubt.ensures.entries c.requires.idle c.args.session.now c.requires.calm c.args.handle found c.requires.found.opened
+      delete-committable store gate.gate gate.journal.knows gate.closing c.reveal_invariant.ensures.guarded c.reveal_invariant.ensures.entries c.requires.idle c.args.session.now c.requires.calm c.args.handle found c.requires.found.opened
           slot met.guarded met.at.0 met.at.1 c.requires.deletes,
     )
 
@@ -45,4 +44,4 @@ commit_change-requires-clause-moved g c =
     subst (λ (x : GuardedGateValue g.row.F.Denot g.row.R.Denot × CallerSession g.row.E.Denot).
     LeavesSession store x.0.journal.knows x.1.number (Delete c.args.handle) (moved_by x.1.state (Closes c.args.handle)))
     (λ i. (sym met.gate i, sym (met.calm c.requires.calm) i))
-    (delete-moves store gate.journal.knows gate.gate.dir.dir.entries gate.gate.open_handles c.doubt-doubt.ensures.machine c.args.session.now c.requires.calm c.args.handle c.args.found.now c.requires.found)
+    (delete-moves store gate.journal.knows gate.gate.dir.dir.entries gate.gate.open_handles c.reveal_invariant.ensures.machine c.args.session.now c.requires.calm c.args.handle c.args.found.now c.requires.found)

@@ -14,7 +14,7 @@ use Rattle.call_steps.specs.Rising.{devices_in}
 use Rattle.call_steps.specs.declared.PlacedReply.{PlacedReply}
 use Rattle.serial_calls.specs.HeldFiles.{KeepsHolds}
 use Rattle.serial_calls.proofs.HeldSettling.{room_holds, settled_holds}
-use Rattle.serial_calls.proofs.QuotaCallers.{continued-kept, early-limits, early_is}
+use Rattle.serial_calls.proofs.QuotaCallers.{early-limits, early_is, waiting-limits}
 use Rattle.serial_calls.proofs.QuotaCalls.{answered_told, forecast-limits, refused-rightly, shown-limits, unanswered_told}
 use Rattle.serial_calls.proofs.ServeSettling.{Settles, reserved_settles, settled_settles, settles_reserved}
 use Rattle.serial_calls.proofs.Unfailed.{gate_unfailed, none_failed_then, settled_touched, settled_unfailed}
@@ -26,13 +26,12 @@ returns-in_err-forecast-clause-serves g c =
     let p = err_from_is_err_and c.from_residual-in_err-forecast.result c.from_residual-in_err-forecast.ensures.1 in
     rw (p.1)
     (unserved_serves g.F.StoreFile.state g.R.RpmbPort.state g.E.Entropy.faults g.L.StoreName.store c.args.gate.now c.reserve.new.self c.forecast.new.gate c.args.slots.now.items
-    c.args.session.now c.forecast.new.session c.reserve.ensures.gate c.reserve.ensures.knows _ c.forecast.ensures.draws.counted c.doubt-doubt.ensures.guarded.card_key c.doubt-doubt.ensures.stands c.requires.slots c.args.call.now
+    c.args.session.now c.forecast.new.session c.reserve.ensures.gate c.reserve.ensures.knows _ c.forecast.ensures.draws.counted c.reveal_invariant.ensures.guarded.card_key c.reveal_invariant.ensures.stands c.requires.slots c.args.call.now
     (Unit {0}) tt c.in_err-forecast.ensures.forecasts)
 
 pub returns-in_err-forecast-clause-limits : goal.returns-in_err-forecast-clause-limits
 returns-in_err-forecast-clause-limits g c =
-    let u = c.in_err-forecast.ensures.forecasts in
-    λ limits is kept. continued-kept g.L.StoreName.store c.args.session.now c.forecast.new.session u.number limits kept u.goes_on.continues
+    waiting-limits g.L.StoreName.store c.args.limit c.args.session.now c.forecast.new.session c.in_err-forecast.ensures.forecasts.waits
 
 pub returns-in-Err-clause-serves : goal.returns-in-Err-clause-serves
 returns-in-Err-clause-serves g c =
@@ -43,7 +42,7 @@ returns-in-Err-clause-serves g c =
     {X = Unit {0}} (g.E.Entropy.is_reliable c.args.session.now.entropy) (g.E.Entropy.faults c.args.session.now.entropy) (g.E.Entropy.faults c.forecast.new.session.entropy) (Ok r))
     c.in-Err.is c.in_ok-forecast.ensures.forecasts in
     alone_serves g.F.StoreFile.state g.R.RpmbPort.state g.E.Entropy.faults g.L.StoreName.store c.args.gate.now c.reserve.new.self c.forecast.new.gate c.args.slots.now.items
-    c.args.session.now c.forecast.new.session c.reserve.ensures.gate c.reserve.ensures.knows _ c.forecast.ensures.draws.counted c.doubt-doubt.ensures.guarded.card_key c.doubt-doubt.ensures.stands c.requires.slots c.args.call.now
+    c.args.session.now c.forecast.new.session c.reserve.ensures.gate c.reserve.ensures.knows _ c.forecast.ensures.draws.counted c.reveal_invariant.ensures.guarded.card_key c.reveal_invariant.ensures.stands c.requires.slots c.args.call.now
     c.in-Err.answer _ early.0
 
 pub returns-in-Err-clause-limits : goal.returns-in-Err-clause-limits
@@ -54,7 +53,7 @@ returns-in-Err-clause-limits g c =
     (λ (r : Result Forecast PlacedReply). Forecasts g.F.StoreFile.state g.R.RpmbPort.state g.L.StoreName.store c.args.call.now c.reserve.new.self c.forecast.new.gate c.args.session.now c.forecast.new.session
     {X = Unit {0}} (g.E.Entropy.is_reliable c.args.session.now.entropy) (g.E.Entropy.faults c.args.session.now.entropy) (g.E.Entropy.faults c.forecast.new.session.entropy) (Ok r))
     c.in-Err.is c.in_ok-forecast.ensures.forecasts in
-    early-limits g.L.StoreName.store c.args.limit c.args.session.now c.forecast.new.session early.0.served.number c.args.call.now c.in-Err.answer.reply Unchanged c.in-Err.answer.place early.0.served.extends
+    early-limits g.L.StoreName.store c.args.limit c.args.session.now c.forecast.new.session c.args.call.now c.in-Err.answer Unchanged early.0.served.appends
     (early_is c.in-Err.answer.reply early.1) refl
 
 pub returns-then-tells_beyond-clause-serves : goal.returns-then-tells_beyond-clause-serves
@@ -74,8 +73,8 @@ returns-then-tells_beyond-clause-serves g c =
     let held : KeepsHolds c.args.gate.now.gate c.forecast.new.gate.gate = λ held.
     settled_holds of_file of_port c.reserve.new.self c.forecast.new.gate foreseen.left.settled (room_holds c.args.gate.now.gate c.reserve.new.self.gate c.reserve.ensures.gate held) in
     none_serves of_file of_port g.E.Entropy.faults store c.args.gate.now c.reserve.new.self c.forecast.new.gate c.args.slots.now.items c.args.session.now c.forecast.new.session
-    c.reserve.ensures.gate c.reserve.ensures.knows (Unit {0}) c.forecast.ensures.draws.counted c.doubt-doubt.ensures.guarded.card_key c.doubt-doubt.ensures.stands c.requires.slots c.args.call.now (Unit {0}) tt settled held
-    foreseen.left.calm.caller foreseen.left.number foreseen.left.made foreseen.left.goes_on
+    c.reserve.ensures.gate c.reserve.ensures.knows (Unit {0}) c.forecast.ensures.draws.counted c.reveal_invariant.ensures.guarded.card_key c.reveal_invariant.ensures.stands c.requires.slots c.args.call.now (Unit {0}) tt settled held
+    foreseen.left.waits
 
 pub returns-then-tells_beyond-clause-limits : goal.returns-then-tells_beyond-clause-limits
 returns-then-tells_beyond-clause-limits g c =
@@ -84,7 +83,7 @@ returns-then-tells_beyond-clause-limits g c =
     (λ (r : Result Forecast PlacedReply). Forecasts g.F.StoreFile.state g.R.RpmbPort.state g.L.StoreName.store c.args.call.now c.reserve.new.self c.forecast.new.gate c.args.session.now c.forecast.new.session
     {X = Unit {0}} (g.E.Entropy.is_reliable c.args.session.now.entropy) (g.E.Entropy.faults c.args.session.now.entropy) (g.E.Entropy.faults c.forecast.new.session.entropy) (Ok r))
     c.in-Ok.is c.in_ok-forecast.ensures.forecasts in
-    shown-limits g.L.StoreName.store c.args.limit c.args.session.now c.forecast.new.session c.forecast.new.gate c.requires.caller foreseen.left.number foreseen.left.goes_on foreseen.left.calm c.args.call.now
+    shown-limits g.L.StoreName.store c.args.limit c.args.session.now c.forecast.new.session c.forecast.new.gate c.requires.caller foreseen.left.waits foreseen.left.calm c.args.call.now
     c.in-Ok.forecast foreseen.told
 
 pub returns-then-tells_beyond-clause-refused : goal.returns-then-tells_beyond-clause-refused
@@ -94,7 +93,7 @@ returns-then-tells_beyond-clause-refused g c =
     (λ (r : Result Forecast PlacedReply). Forecasts g.F.StoreFile.state g.R.RpmbPort.state g.L.StoreName.store c.args.call.now c.reserve.new.self c.forecast.new.gate c.args.session.now c.forecast.new.session
     {X = Unit {0}} (g.E.Entropy.is_reliable c.args.session.now.entropy) (g.E.Entropy.faults c.args.session.now.entropy) (g.E.Entropy.faults c.forecast.new.session.entropy) (Ok r))
     c.in-Ok.is c.in_ok-forecast.ensures.forecasts in
-    refused-rightly g.L.StoreName.store c.args.limit c.args.session.now c.forecast.new.session c.forecast.new.gate c.requires.caller foreseen.left.number foreseen.left.goes_on foreseen.left.calm c.args.call.now
+    refused-rightly g.L.StoreName.store c.args.limit c.args.session.now c.forecast.new.session c.forecast.new.gate c.requires.caller foreseen.left.waits foreseen.left.calm c.args.call.now
     c.in-Ok.forecast foreseen.told (sym c.tells_beyond.ensures ∙ c.if-tells_beyond.true) foreseen.place
 
 pub returns-in_err-reserve-2-clause-serves : goal.returns-in_err-reserve-2-clause-serves
@@ -118,8 +117,8 @@ returns-in_err-reserve-2-clause-serves g c =
     let p = err_from_is_err_and c.from_residual-in_err-reserve-2.result c.from_residual-in_err-reserve-2.ensures.1 in
     rw (p.1)
     (none_serves of_file of_port g.E.Entropy.faults store c.args.gate.now c.reserve.new.self c.reserve-2.new.self c.args.slots.now.items c.args.session.now c.forecast.new.session
-    c.reserve.ensures.gate c.reserve.ensures.knows (Unit {0}) c.forecast.ensures.draws.counted c.doubt-doubt.ensures.guarded.card_key c.doubt-doubt.ensures.stands c.requires.slots c.args.call.now (Unit {0}) tt settled held
-    foreseen.left.calm.caller foreseen.left.number foreseen.left.made foreseen.left.goes_on)
+    c.reserve.ensures.gate c.reserve.ensures.knows (Unit {0}) c.forecast.ensures.draws.counted c.reveal_invariant.ensures.guarded.card_key c.reveal_invariant.ensures.stands c.requires.slots c.args.call.now (Unit {0}) tt settled held
+    foreseen.left.waits)
 
 pub returns-in_err-reserve-2-clause-limits : goal.returns-in_err-reserve-2-clause-limits
 returns-in_err-reserve-2-clause-limits g c =
@@ -128,7 +127,7 @@ returns-in_err-reserve-2-clause-limits g c =
     (λ (r : Result Forecast PlacedReply). Forecasts g.F.StoreFile.state g.R.RpmbPort.state g.L.StoreName.store c.args.call.now c.reserve.new.self c.forecast.new.gate c.args.session.now c.forecast.new.session
     {X = Unit {0}} (g.E.Entropy.is_reliable c.args.session.now.entropy) (g.E.Entropy.faults c.args.session.now.entropy) (g.E.Entropy.faults c.forecast.new.session.entropy) (Ok r))
     c.in-Ok.is c.in_ok-forecast.ensures.forecasts in
-    shown-limits g.L.StoreName.store c.args.limit c.args.session.now c.forecast.new.session c.forecast.new.gate c.requires.caller foreseen.left.number foreseen.left.goes_on foreseen.left.calm c.args.call.now
+    shown-limits g.L.StoreName.store c.args.limit c.args.session.now c.forecast.new.session c.forecast.new.gate c.requires.caller foreseen.left.waits foreseen.left.calm c.args.call.now
     c.in-Ok.forecast foreseen.told
 
 pub returns-in_err-answer-clause-serves : goal.returns-in_err-answer-clause-serves
@@ -154,7 +153,7 @@ returns-in_err-answer-clause-serves g c =
     (unanswered_told of_file of_port g.E.Entropy.faults store (record { gate = c.args.gate.now; slots = c.args.slots.now.items; session = c.args.session.now })
     (record { gate = c.serve_object.new.gate; slots = c.serve_object.new.slots.items; session = c.serve_object.new.session }) c.args.call.now _ (Unit {0}) c.in_err-answer.field-0.0 tt
     (object_serves of_file of_port g.E.Entropy.faults store c.args.gate.now c.reserve-2.new.self c.serve_object.new.gate c.args.slots.now.items c.serve_object.new.slots.items c.args.session.now c.forecast.new.session
-    c.serve_object.new.session settled held c.forecast.ensures.draws.counted foreseen.left.number foreseen.left.made foreseen.left.goes_on c.args.call.now _ (Err c.in_err-answer.field-0.0) c.in_err-answer.ensures.serves))
+    c.serve_object.new.session settled held c.forecast.ensures.draws.counted foreseen.left.waits c.args.call.now _ (Err c.in_err-answer.field-0.0) c.in_err-answer.ensures.serves))
 
 pub returns-in_err-answer-clause-limits : goal.returns-in_err-answer-clause-limits
 returns-in_err-answer-clause-limits g c =
@@ -163,7 +162,7 @@ returns-in_err-answer-clause-limits g c =
     (λ (r : Result Forecast PlacedReply). Forecasts g.F.StoreFile.state g.R.RpmbPort.state g.L.StoreName.store c.args.call.now c.reserve.new.self c.forecast.new.gate c.args.session.now c.forecast.new.session
     {X = Unit {0}} (g.E.Entropy.is_reliable c.args.session.now.entropy) (g.E.Entropy.faults c.args.session.now.entropy) (g.E.Entropy.faults c.forecast.new.session.entropy) (Ok r))
     c.in-Ok.is c.in_ok-forecast.ensures.forecasts in
-    forecast-limits g.L.StoreName.store c.args.limit c.args.session.now c.forecast.new.session c.reserve-2.new.self c.requires.caller foreseen.left.number foreseen.left.goes_on
+    forecast-limits g.L.StoreName.store c.args.limit c.args.session.now c.forecast.new.session c.reserve-2.new.self c.requires.caller foreseen.left.waits
     (subst (λ (v : GateView). IsCalm g.L.StoreName.store v c.forecast.new.session) (sym c.reserve-2.ensures.knows) foreseen.left.calm) c.args.call.now c.in-Ok.forecast
     (subst (λ (v : GateView). IsForecastAt g.L.StoreName.store v.all c.forecast.new.session.number c.args.call.now c.in-Ok.forecast) (sym c.reserve-2.ensures.knows) foreseen.told)
     (sym c.tells_beyond.ensures ∙ c.if-tells_beyond.false) c.serve_object.new.gate c.serve_object.new.session g.F.StoreFile.state g.R.RpmbPort.state g.E.Entropy.faults c.args.slots.now.items
@@ -190,7 +189,7 @@ returns-clause-serves g c =
     answered_told of_file of_port g.E.Entropy.faults store (record { gate = c.args.gate.now; slots = c.args.slots.now.items; session = c.args.session.now })
     (record { gate = c.serve_object.new.gate; slots = c.serve_object.new.slots.items; session = c.serve_object.new.session }) c.args.call.now _ (Unit {0}) c.in_ok-answer.answer
     (object_serves of_file of_port g.E.Entropy.faults store c.args.gate.now c.reserve-2.new.self c.serve_object.new.gate c.args.slots.now.items c.serve_object.new.slots.items c.args.session.now c.forecast.new.session
-    c.serve_object.new.session settled held c.forecast.ensures.draws.counted foreseen.left.number foreseen.left.made foreseen.left.goes_on c.args.call.now _ (Ok c.in_ok-answer.answer) c.in_ok-answer.ensures.serves)
+    c.serve_object.new.session settled held c.forecast.ensures.draws.counted foreseen.left.waits c.args.call.now _ (Ok c.in_ok-answer.answer) c.in_ok-answer.ensures.serves)
 
 pub returns-clause-limits : goal.returns-clause-limits
 returns-clause-limits g c =
@@ -199,7 +198,7 @@ returns-clause-limits g c =
     (λ (r : Result Forecast PlacedReply). Forecasts g.F.StoreFile.state g.R.RpmbPort.state g.L.StoreName.store c.args.call.now c.reserve.new.self c.forecast.new.gate c.args.session.now c.forecast.new.session
     {X = Unit {0}} (g.E.Entropy.is_reliable c.args.session.now.entropy) (g.E.Entropy.faults c.args.session.now.entropy) (g.E.Entropy.faults c.forecast.new.session.entropy) (Ok r))
     c.in-Ok.is c.in_ok-forecast.ensures.forecasts in
-    forecast-limits g.L.StoreName.store c.args.limit c.args.session.now c.forecast.new.session c.reserve-2.new.self c.requires.caller foreseen.left.number foreseen.left.goes_on
+    forecast-limits g.L.StoreName.store c.args.limit c.args.session.now c.forecast.new.session c.reserve-2.new.self c.requires.caller foreseen.left.waits
     (subst (λ (v : GateView). IsCalm g.L.StoreName.store v c.forecast.new.session) (sym c.reserve-2.ensures.knows) foreseen.left.calm) c.args.call.now c.in-Ok.forecast
     (subst (λ (v : GateView). IsForecastAt g.L.StoreName.store v.all c.forecast.new.session.number c.args.call.now c.in-Ok.forecast) (sym c.reserve-2.ensures.knows) foreseen.told)
     (sym c.tells_beyond.ensures ∙ c.if-tells_beyond.false) c.serve_object.new.gate c.serve_object.new.session g.F.StoreFile.state g.R.RpmbPort.state g.E.Entropy.faults c.args.slots.now.items

@@ -9,7 +9,6 @@ use Rattle.call_steps.specs.declared.SessionMove.{SessionMove}
 use Rattle.call_steps.proofs.NameCommits.{handles_own}
 use Rattle.call_steps.specs.ObjectCommits.{IsCommittable}
 use Rattle.call_steps.specs.NameLaws.{kept_versions}
-use Rattle.call_steps.specs.Changes.{change_of}
 use Rattle.call_steps.specs.declared.EntryChange.{EntryChange}
 use Rattle.store_model.specs.declared.name.ObjectName.{ObjectName}
 use Rattle.tee_types.specs.declared.call.Call.TheVariants.{Rename}
@@ -29,10 +28,10 @@ commit_change-requires-clause-committable g c =
     let slot = c.catch_up_entry.new.slot in
     let same : found.held.entry.app ≡ c.app-app.result = search rules in
     subst (λ (x : GuardedGateValue g.row.F.Denot g.row.R.Denot × CallerSession g.row.E.Denot × EntryChange).
-    (versions : TagVersions) × IsCommittable store x.0.gate x.0.journal.knows slot x.1 (Rename c.args.handle c.args.id) Done (change_of x.2) versions)
+    (versions : TagVersions) × IsCommittable store x.0.gate x.0.journal.knows slot x.1 (Rename c.args.handle c.args.id) Done x.2 versions)
     (λ i. (sym met.gate i, sym (met.calm c.requires.calm) i, sym c.change_for.ensures i)) (
       kept_versions met.at.0,
-      rename-committable store gate.gate gate.journal.knows gate.closing c.doubt-doubt.ensures.guarded c.doubt-doubt.ensures.entries c.requires.idle c.args.session.now c.requires.calm c.args.handle found c.requires.found.opened
+      rename-committable store gate.gate gate.journal.knows gate.closing c.reveal_invariant.ensures.guarded c.reveal_invariant.ensures.entries c.requires.idle c.args.session.now c.requires.calm c.args.handle found c.requires.found.opened
           slot met.guarded met.at.0 met.at.1 c.args.id c.requires.renames c.requires.unnamed (same ∙ c.app-app.ensures),
     )
 
@@ -46,7 +45,7 @@ commit_change-requires-clause-moved g c =
     subst (λ (x : GuardedGateValue g.row.F.Denot g.row.R.Denot × CallerSession g.row.E.Denot × SessionMove).
     LeavesSession store x.0.journal.knows x.1.number (Rename c.args.handle c.args.id) (moved_by x.1.state x.2))
     (λ i. (sym met.gate i, sym (met.calm c.requires.calm) i, sym step i))
-    (rename-moves store gate.journal.knows gate.gate.dir.dir.entries gate.gate.open_handles c.doubt-doubt.ensures.machine c.args.session.now c.requires.calm c.args.handle c.args.found.now c.requires.found
+    (rename-moves store gate.journal.knows gate.gate.dir.dir.entries gate.gate.open_handles c.reveal_invariant.ensures.machine c.args.session.now c.requires.calm c.args.handle c.args.found.now c.requires.found
     c.args.id c.requires.unnamed)
 
 pub returns-then-ne-clause-unanswered : goal.returns-then-ne-clause-unanswered

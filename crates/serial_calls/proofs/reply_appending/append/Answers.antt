@@ -26,7 +26,7 @@ answer_with-place-requires-clause-told g c =
     seat_same c.lend_seat-seat.result may.at.sees.seat (sym c.lend_seat-seat.ensures.seat ∙ may.at.sees.is) in
     let replied : c.twice-reply.result.0 ≡ c.args.reply = ap (λ (p : Reply × Reply). p.0) c.twice-reply.ensures in
     subst (λ (x : Sight SlotView × Reply). MayBeTold store gate.gate.doubt gate.gate.dir.dir.entries knows x.0.knows s.number s.made c.args.call x.1) (λ i. (sym lent i, sym replied i))
-    (appended-told store gate.gate knows gate.closing c.doubt-doubt.ensures.guarded c.doubt-doubt.ensures.machine slot own c.args.call c.args.reply s may)
+    (appended-told store gate.gate knows gate.closing c.reveal_invariant.ensures.guarded c.reveal_invariant.ensures.machine slot own c.args.call c.args.reply s may)
 
 pub answer_with-place-requires-clause-moved : goal.answer_with-place-requires-clause-moved
 answer_with-place-requires-clause-moved g c =
@@ -41,7 +41,7 @@ answer_with-place-requires-clause-moved g c =
     seat_same c.lend_seat-seat.result may.at.sees.seat (sym c.lend_seat-seat.ensures.seat ∙ may.at.sees.is) in
     let replied : c.twice-reply.result.0 ≡ c.args.reply = ap (λ (p : Reply × Reply). p.0) c.twice-reply.ensures in
     subst (λ (x : Sight SlotView × Reply). IsMovedBy store knows (slot_record store knows x.0.knows s.number s.made c.args.call x.1) s) (λ i. (sym lent i, sym replied i))
-    (appended-moves store gate.gate knows gate.closing c.doubt-doubt.ensures.guarded c.doubt-doubt.ensures.machine slot own c.args.call c.args.reply s may)
+    (appended-moves store gate.gate knows gate.closing c.reveal_invariant.ensures.guarded c.reveal_invariant.ensures.machine slot own c.args.call c.args.reply s may)
 
 pub returns-clause-guarded : goal.returns-clause-guarded
 returns-clause-guarded g c =
@@ -64,7 +64,7 @@ returns-clause-guarded g c =
     ∙ ap (λ (x : SlotValue). record x { seat = Some c.answer_with-place.result.1 }) c.lend_seat-seat.ensures.slot
     ∙ ap (λ (x : Sight SlotView). record slot { seat = Some x }) back in
     subst (SlotInvariant store) (sym is)
-    (appended-keeps store gate.gate knows gate.closing c.doubt-doubt.ensures.guarded c.doubt-doubt.ensures.machine slot own c.args.call c.args.reply s may)
+    (appended-keeps store gate.gate knows gate.closing c.reveal_invariant.ensures.guarded c.reveal_invariant.ensures.machine slot own c.args.call c.args.reply s may)
 
 pub returns-clause-whole : goal.returns-clause-whole
 returns-clause-whole g c =

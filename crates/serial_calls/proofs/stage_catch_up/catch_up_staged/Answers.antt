@@ -30,7 +30,7 @@ returns-clause-at g c =
     let lent = c.lend_seat-seat.result in
     let fits : SlotFits knows lent.knows = (c.catch_up.ensures.agreed.slot lent.knows refl).0 in
     let is = given_back knows old c.lend_seat-seat.new.self c.give_seat.new.self lent c.in-Some.seat c.lend_seat-seat.ensures.seat c.lend_seat-seat.ensures.slot c.in-Some.ensures.slot c.give_seat.ensures in
-    met_at g.L.StoreName.store knows old c.give_seat.new.self lent c.lend_seat-seat.ensures.seat fits c.requires.base c.requires.settled is gate.gate gate.closing c.doubt-doubt.ensures.guarded c.requires.idle
+    met_at g.L.StoreName.store knows old c.give_seat.new.self lent c.lend_seat-seat.ensures.seat fits c.requires.base c.requires.settled is gate.gate gate.closing c.reveal_invariant.ensures.guarded c.requires.idle
     c.requires.entry.0 c.args.entry.now c.requires.entry.1 c.requires.file c.catch_up.ensures.agreed.gate
 
 pub returns-clause-still : goal.returns-clause-still
@@ -52,7 +52,7 @@ returns-clause-stages g c =
     let lent = c.lend_seat-seat.result in
     let fits : SlotFits knows lent.knows = (c.catch_up.ensures.agreed.slot lent.knows refl).0 in
     let is = given_back knows old c.lend_seat-seat.new.self c.give_seat.new.self lent c.in-Some.seat c.lend_seat-seat.ensures.seat c.lend_seat-seat.ensures.slot c.in-Some.ensures.slot c.give_seat.ensures in
-    let at = met_at store knows old c.give_seat.new.self lent c.lend_seat-seat.ensures.seat fits c.requires.base c.requires.settled is gate.gate gate.closing c.doubt-doubt.ensures.guarded c.requires.idle
+    let at = met_at store knows old c.give_seat.new.self lent c.lend_seat-seat.ensures.seat fits c.requires.base c.requires.settled is gate.gate gate.closing c.reveal_invariant.ensures.guarded c.requires.idle
     c.requires.entry.0 e c.requires.entry.1 c.requires.file c.catch_up.ensures.agreed.gate in
     met_stages store knows old c.give_seat.new.self lent c.lend_seat-seat.ensures.seat fits c.requires.base c.requires.settled is e at.0 at.1
 

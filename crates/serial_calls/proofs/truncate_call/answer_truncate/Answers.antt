@@ -20,13 +20,13 @@ commit_stage-requires-clause-committable g c =
     let found = c.args.found.now in
     let entry : StagesEntry store knows slot found.held.entry (resizing c.args.size) (Root c.in-Root.root) =
     subst (λ (x : Staged). StagesEntry store knows slot found.held.entry (resizing c.args.size) x) c.in-Root.is c.requires.stages in
-    truncate_committable store gate.gate knows gate.closing c.doubt-doubt.ensures.guarded c.doubt-doubt.ensures.entries c.requires.idle s c.requires.calm c.args.handle found c.requires.found slot entry.version entry.at
+    truncate_committable store gate.gate knows gate.closing c.reveal_invariant.ensures.guarded c.reveal_invariant.ensures.entries c.requires.idle s c.requires.calm c.args.handle found c.requires.found slot entry.version entry.at
     c.in-Root.root c.args.size c.requires.other c.requires.fits entry.stages
 
 pub commit_stage-requires-clause-moved : goal.commit_stage-requires-clause-moved
 commit_stage-requires-clause-moved g c =
     let gate = c.args.gate.now in
-    truncate_moves g.L.StoreName.store gate.journal.knows gate.gate.dir.dir.entries gate.gate.open_handles c.doubt-doubt.ensures.machine c.args.session.now c.requires.calm c.args.handle c.args.found.now
+    truncate_moves g.L.StoreName.store gate.journal.knows gate.gate.dir.dir.entries gate.gate.open_handles c.reveal_invariant.ensures.machine c.args.session.now c.requires.calm c.args.handle c.args.found.now
     c.requires.found c.args.size
 
 pub tell_failure-requires-clause-may : goal.tell_failure-requires-clause-may

@@ -14,7 +14,6 @@ use Rattle.call_steps.specs.JournalCalls.{LeavesSession}
 use Rattle.serial_calls.specs.Renewed.{renewal}
 use Rattle.history_seats.specs.Changes.{TagVersions}
 use Rattle.call_steps.specs.ObjectCommits.{IsCommittable}
-use Rattle.call_steps.specs.Changes.{change_of}
 use Rattle.store_model.specs.Machine.{with_handle}
 use Rattle.tee_types.specs.declared.reply.Reply.TheVariants.{Done}
 
@@ -28,9 +27,9 @@ commit_stage-requires-clause-committable g c =
     let found = c.args.found.now in
     let entry : StagesEntry store knows slot found.held.entry (writing c.args.found.now.handle.position c.args.bytes) (Root c.in-Root.root) =
     subst (λ (x : Staged). StagesEntry store knows slot found.held.entry (writing c.args.found.now.handle.position c.args.bytes) x) c.in-Root.is c.requires.stages in
-    subst (λ (n : ℕ). (versions : TagVersions) × IsCommittable store gate.gate knows slot s (Write c.args.handle c.args.bytes) Done (change_of (renewal found.held c.in-Root.root n)) versions)
+    subst (λ (n : ℕ). (versions : TagVersions) × IsCommittable store gate.gate knows slot s (Write c.args.handle c.args.bytes) Done (renewal found.held c.in-Root.root n) versions)
     (sym (c.max-size.ensures ∙ ap (λ (n : ℕ). max found.held.entry.size (found.handle.position + n)) c.len.ensures))
-    (write_committable store gate.gate knows gate.closing c.doubt-doubt.ensures.guarded c.doubt-doubt.ensures.entries c.requires.idle s c.requires.calm c.args.handle found c.requires.found slot entry.version entry.at
+    (write_committable store gate.gate knows gate.closing c.reveal_invariant.ensures.guarded c.reveal_invariant.ensures.entries c.requires.idle s c.requires.calm c.args.handle found c.requires.found slot entry.version entry.at
     c.in-Root.root c.args.bytes c.requires.some c.requires.fits entry.stages)
 
 pub commit_stage-requires-clause-moved : goal.commit_stage-requires-clause-moved
@@ -38,7 +37,7 @@ commit_stage-requires-clause-moved g c =
     let gate = c.args.gate.now in
     subst (λ (n : ℕ). LeavesSession g.L.StoreName.store gate.journal.knows c.args.session.now.number (Write c.args.handle c.args.bytes)
     (with_handle c.args.session.now.state c.args.handle (record c.args.found.now.handle { position = c.args.found.now.handle.position + n }))) (sym c.len.ensures)
-    (write_moves g.L.StoreName.store gate.journal.knows gate.gate.dir.dir.entries gate.gate.open_handles c.doubt-doubt.ensures.machine c.args.session.now c.requires.calm c.args.handle c.args.found.now
+    (write_moves g.L.StoreName.store gate.journal.knows gate.gate.dir.dir.entries gate.gate.open_handles c.reveal_invariant.ensures.machine c.args.session.now c.requires.calm c.args.handle c.args.found.now
     c.requires.found c.args.bytes c.requires.some)
 
 pub tell_failure-requires-clause-may : goal.tell_failure-requires-clause-may

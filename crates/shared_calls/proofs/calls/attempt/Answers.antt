@@ -2,7 +2,7 @@
 use Rattle.std.proofs.Common.{subst, sym}
 use Rattle.tee_types.specs.declared.call.Call.{Call}
 use Rattle.shared_calls.specs.Attempts.{EndsAttempt}
-use Rattle.shared_calls.proofs.Waiting.{waits-same}
+use Rattle.serial_calls.proofs.GoingOn.{waits-same}
 use Rattle.shared_calls.proofs.calls.attempt.Goals as goal
 
 pub returns-in-Read-clause-ends : goal.returns-in-Read-clause-ends

@@ -1,10 +1,13 @@
 -- The create ended with what making the object gave, and gate and slot keep what always holds of them.
 use Rattle.std.proofs.Common.{ℕ, subst, sym}
+use Rattle.serial_calls.proofs.NewObjects.{create_is}
 use Rattle.serial_calls.specs.CreateEnds.{MayTellIfUnmade}
-use Rattle.serial_calls.specs.Rules.{NewObject}
+use Rattle.serial_calls.specs.Rules.{NewObject, new_object}
 use Rattle.serial_calls.specs.Seating.{reseated}
 use Rattle.serial_calls.specs.GuardedGates.{GuardedGateValue}
 use Rattle.serial_calls.specs.Fits.{SeesWhole}
+use Rattle.tee_types.specs.declared.call.Call.{Call}
+use Rattle.shared_calls.specs.Attempts.{IsAnswered}
 use Rattle.shared_calls.specs.SharedCreate.{told_made}
 use Rattle.shared_calls.specs.SharedReady.{IsReady}
 use Rattle.shared_calls.proofs.FinishedCreates.{finished-answers, finished-carries, finished-gate, finished-slot}
@@ -24,9 +27,10 @@ pub returns-clause-answered : goal.returns-clause-answered
 returns-clause-answered g c =
     let store = g.L.StoreName.store in
     let was = c.args.session.now in
-    let object : NewObject = record { id = c.args.id; flags = c.args.flags; attributes = c.args.attributes.now; bytes = c.args.bytes.now } in
-    finished-answers g.F.StoreFile.state g.R.RpmbPort.state store (reseated store c.args.slot.now.number c.reserve-file.new.gate) c.finish-answer.new.gate c.args.slot.now.number was c.finish-answer.new.session
-    g.E.Entropy.faults object c.args.place.now (g.E.Entropy.is_reliable was.entropy) c.finish-answer.result c.args.made c.finish-answer.ensures.finished
+    let object : NewObject = new_object c.args.call in
+    subst (λ (call : Call). IsAnswered store was c.finish-answer.new.session call c.finish-answer.result) (create_is c.args.call c.requires.create)
+    (finished-answers g.F.StoreFile.state g.R.RpmbPort.state store (reseated store c.args.slot.now.number c.reserve-file.new.gate) c.finish-answer.new.gate c.args.slot.now.number was c.finish-answer.new.session
+    g.E.Entropy.faults object c.args.place.now (g.E.Entropy.is_reliable was.entropy) c.finish-answer.result c.args.made c.finish-answer.ensures.finished)
 
 pub invariant_of-gate : goal.invariant_of-gate
 invariant_of-gate g c =
@@ -48,13 +52,13 @@ invariant_of-gate-2 g c =
     let of_file = g.F.StoreFile.state in
     let of_port = g.R.RpmbPort.state in
     let was = c.args.session.now in
-    let object : NewObject = record { id = c.args.id; flags = c.args.flags; attributes = c.args.attributes.now; bytes = c.args.bytes.now } in
+    let object : NewObject = new_object c.args.call in
     let number = c.args.slot.now.number in
     let old = c.gate.inside.gate in
     let held = c.reserve-file.new.gate in
     let done = c.finish-answer in
     let idle = idle-held old held _ c.reserve-file.ensures.same (subst (λ (x : GuardedGateValue _ _). IsReady store x was) (sym c.gate.view_is) c.requires.ready).idle in
-    let known = known-card of_file of_port held.gate _ c.doubt-doubt.ensures.guarded.card_key idle c.doubt-doubt.ensures.stands in
+    let known = known-card of_file of_port held.gate _ c.reveal_invariant.ensures.guarded.card_key idle c.reveal_invariant.ensures.stands in
     keeps-held of_file of_port store before done.new.gate
     (finished-gate of_file of_port store (reseated store number held) done.new.gate number was done.new.session g.E.Entropy.faults object c.args.place.now (g.E.Entropy.is_reliable was.entropy) done.result
     before c.requires.kept.object known (keeps-reseated of_file of_port store before held (keeps-held of_file of_port store before old c.gate.invariant held _ c.reserve-file.ensures.same) number)
@@ -66,7 +70,7 @@ returns-clause-kept g c =
     let store = g.L.StoreName.store in
     let before = g.L.DevicesName.devices in
     let was = c.args.session.now in
-    let object : NewObject = record { id = c.args.id; flags = c.args.flags; attributes = c.args.attributes.now; bytes = c.args.bytes.now } in
+    let object : NewObject = new_object c.args.call in
     let number = c.args.slot.now.number in
     let held = c.reserve-file.new.gate in
     let knows = held.journal.knows in
@@ -85,12 +89,12 @@ returns-clause-drawn g c = λ first grows carries.
     let of_file = g.F.StoreFile.state in
     let of_port = g.R.RpmbPort.state in
     let was = c.args.session.now in
-    let object : NewObject = record { id = c.args.id; flags = c.args.flags; attributes = c.args.attributes.now; bytes = c.args.bytes.now } in
+    let object : NewObject = new_object c.args.call in
     let number = c.args.slot.now.number in
     let old = c.gate.inside.gate in
     let held = c.reserve-file.new.gate in
     let done = c.finish-answer in
     let idle = idle-held old held _ c.reserve-file.ensures.same (subst (λ (x : GuardedGateValue _ _). IsReady store x was) (sym c.gate.view_is) c.requires.ready).idle in
-    let known = known-card of_file of_port held.gate _ c.doubt-doubt.ensures.guarded.card_key idle c.doubt-doubt.ensures.stands in
+    let known = known-card of_file of_port held.gate _ c.reveal_invariant.ensures.guarded.card_key idle c.reveal_invariant.ensures.stands in
     finished-carries of_file of_port store (reseated store number held) done.new.gate number was done.new.session g.E.Entropy.faults object c.args.place.now (g.E.Entropy.is_reliable was.entropy) done.result
     known first grows c.args.made done.ensures.finished carries

@@ -1,9 +1,9 @@
 -- The file counted what the reply carries for it, where no object was made.
 use Rattle.std.proofs.Common.{subst, sym}
 use Rattle.serial_calls.specs.CallerSessions.{CallerSession}
-use Rattle.shared_calls.specs.Attempts.{IsWaiting}
+use Rattle.serial_calls.specs.SessionEvents.{IsWaiting}
 use Rattle.shared_calls.proofs.SharedObjects.{keeps-made}
-use Rattle.shared_calls.proofs.StageCounts.{drawn-waits}
+use Rattle.serial_calls.proofs.GoingOn.{waits-drawn}
 use Rattle.shared_calls.proofs.create_call.make_slot.Goals as goal
 
 pub returns-clause-kept : goal.returns-clause-kept
@@ -17,4 +17,4 @@ pub returns-clause-waits : goal.returns-clause-waits
 returns-clause-waits g c =
     let made = c.make_unless_spent in
     subst (λ (s : CallerSession g.row.E.Denot). IsWaiting g.L.StoreName.store c.args.session.now s) (sym made.ensures.session)
-    (drawn-waits g.L.StoreName.store c.args.session.now made.new.session.entropy c.requires.caller)
+    (waits-drawn g.L.StoreName.store c.args.session.now made.new.session.entropy c.requires.caller)

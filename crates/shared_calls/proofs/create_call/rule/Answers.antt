@@ -1,11 +1,11 @@
 -- The rules answered.
-use Rattle.std.proofs.Common.{Ok, Option, subst, sym, ◌∙◌}
+use Rattle.std.proofs.Common.{Ok, Option, subst, sym}
 use Rattle.call_rules.specs.Plain.{IsPlain}
 use Rattle.serial_calls.specs.GateServed.{IsServed}
 use Rattle.serial_calls.specs.declared.PlacedReply.{PlacedReply}
 use Rattle.tee_types.specs.declared.call.Call.{Call}
-use Rattle.tee_types.specs.declared.call.Call.TheVariants.{Create}
-use Rattle.shared_calls.specs.Attempts.{EndsAttempt, IsWaiting}
+use Rattle.shared_calls.specs.Attempts.{EndsAttempt}
+use Rattle.serial_calls.specs.SessionEvents.{IsWaiting}
 use Rattle.shared_calls.proofs.KeptCalls.{keeps-ruled}
 use Rattle.shared_calls.proofs.RefusedCalls.{refused-plain}
 use Rattle.shared_calls.proofs.Served.{ruled-answers}
@@ -24,9 +24,9 @@ returns-in_ok-kept-in-Answered-clause-ends g c =
     let was = c.args.session.now in
     let between = c.begin.new.session in
     let done = c.answer_ruled in
-    let call = Create c.args.id c.args.flags c.args.attributes.now c.args.bytes.now in
+    let call = c.args.call.now in
     let begun : IsWaiting store was between =
     subst (λ (o : Option PlacedReply). EndsAttempt {X = Unit {0}} store was between c.args.call.now (Ok o)) c.in_default.is c.in_ok-answer.ensures.ends in
     answers-then store was between done.new.session begun call done.result
     (ruled-answers store call between done.new.session done.result c.gate.inside.gate done.new.gate
-    (subst (λ (x : Call). IsServed store x done.result c.gate.inside.gate done.new.gate between done.new.session) (c.in_ok-kept-in-Answered.ensures ∙ c.requires.call) done.ensures.served))
+    (subst (λ (x : Call). IsServed store x done.result c.gate.inside.gate done.new.gate between done.new.session) c.in_ok-kept-in-Answered.ensures done.ensures.served))

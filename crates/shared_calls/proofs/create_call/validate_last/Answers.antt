@@ -2,11 +2,10 @@
 use Rattle.std.proofs.Common.{Ok, subst}
 use Rattle.std.specs.declared.alloc.AllocError.{AllocError}
 use Rattle.call_rules.specs.declared.decision.NewPlace.{NewPlace}
-use Rattle.tee_types.specs.declared.call.Call.TheVariants.{Create}
 use Rattle.shared_calls.specs.declared.validation.Validation.{Validation}
 use Rattle.shared_calls.specs.SharedCreate.{told_made}
 use Rattle.shared_calls.specs.Validations.{EndsLook}
-use Rattle.shared_calls.specs.Attempts.{IsWaiting}
+use Rattle.serial_calls.specs.SessionEvents.{IsWaiting}
 use Rattle.shared_calls.proofs.FinishedCreates.{finish-ends}
 use Rattle.shared_calls.proofs.SharedObjects.{keeps-unmade}
 use Rattle.shared_calls.proofs.create_call.validate_last.Goals as goal
@@ -14,7 +13,7 @@ use Rattle.shared_calls.proofs.create_call.validate_last.Goals as goal
 pub returns-clause-ends : goal.returns-clause-ends
 returns-clause-ends g c =
     let store = g.L.StoreName.store in
-    let call = Create c.args.id c.args.flags c.args.attributes.now c.args.bytes.now in
+    let call = c.args.call in
     let was = c.args.session.now in
     let between = c.validate.new.session in
     let validated : IsWaiting store was between =

@@ -1,7 +1,7 @@
 -- The gate keeps what always holds of its devices, whatever the forecast did alone.
 use Rattle.shared_calls.proofs.ForeseenCalls.{drawn-forecast, ends-forecast, keeps-forecast, starves-forecast}
 use Rattle.shared_calls.proofs.KeptCalls.{keeps-reserved}
-use Rattle.shared_calls.proofs.Waiting.{waits-same}
+use Rattle.serial_calls.proofs.GoingOn.{waits-same}
 use Rattle.shared_calls.proofs.forecasting.forecast.Goals as goal
 
 pub invariant_of-gate : goal.invariant_of-gate
@@ -16,7 +16,7 @@ returns-in_err-reserve-clause-ends g c =
 pub invariant_of-gate-2 : goal.invariant_of-gate-2
 invariant_of-gate-2 g c =
     keeps-forecast g.F.StoreFile.state g.R.RpmbPort.state g.E.Entropy.faults g.L.StoreName.store c.args.call.now c.reserve.new.self c.forecast.new.gate c.args.session.now c.forecast.new.session _
-    g.L.DevicesName.devices c.gate.inside.gate c.reserve.ensures.gate c.reserve.ensures.knows c.forecast.ensures.draws.counted c.doubt-doubt.ensures.guarded.card_key c.doubt-doubt.ensures.stands c.gate.invariant
+    g.L.DevicesName.devices c.gate.inside.gate c.reserve.ensures.gate c.reserve.ensures.knows c.forecast.ensures.draws.counted c.reveal_invariant.ensures.guarded.card_key c.reveal_invariant.ensures.stands c.gate.invariant
     c.forecast.result c.forecast.ensures.forecasts
 
 pub returns-clause-ends : goal.returns-clause-ends
@@ -27,5 +27,5 @@ returns-clause-ends g c =
 pub returns-clause-drawn : goal.returns-clause-drawn
 returns-clause-drawn g c =
     drawn-forecast g.F.StoreFile.state g.R.RpmbPort.state g.E.Entropy.faults g.L.StoreName.store c.args.call.now c.reserve.new.self c.forecast.new.gate c.args.session.now c.forecast.new.session _
-    g.L.DevicesName.devices c.gate.inside.gate c.reserve.ensures.gate c.reserve.ensures.knows c.forecast.ensures.draws.counted c.doubt-doubt.ensures.guarded.card_key c.doubt-doubt.ensures.stands c.gate.invariant
+    g.L.DevicesName.devices c.gate.inside.gate c.reserve.ensures.gate c.reserve.ensures.knows c.forecast.ensures.draws.counted c.reveal_invariant.ensures.guarded.card_key c.reveal_invariant.ensures.stands c.gate.invariant
     c.forecast.result c.forecast.ensures.forecasts

@@ -6,7 +6,8 @@ use Rattle.serial_calls.specs.GuardedGates.{GuardedGateValue}
 use Rattle.serial_calls.specs.GateServed.{IsLeft, ServesAlone}
 use Rattle.serial_calls.specs.declared.PlacedReply.{PlacedReply}
 use Rattle.shared_calls.proofs.KeptCalls.{keeps-alone, keeps-left, keeps-reserved, keeps-unserved}
-use Rattle.shared_calls.proofs.Waiting.{starves, waits-same}
+use Rattle.shared_calls.proofs.Waiting.{starves}
+use Rattle.serial_calls.proofs.GoingOn.{waits-same}
 use Rattle.shared_calls.proofs.gate_entry.begin.Goals as goal
 
 pub invariant_of-gate : goal.invariant_of-gate
@@ -21,13 +22,13 @@ returns-in_err-reserve-clause-ends g c =
 pub invariant_of-gate-in_err-answer : goal.invariant_of-gate-in_err-answer
 invariant_of-gate-in_err-answer g c =
     keeps-unserved g.F.StoreFile.state g.R.RpmbPort.state g.L.StoreName.store g.L.DevicesName.devices g.E.Entropy.faults c.gate.inside.gate c.reserve.new.self c.answer_alone.new.gate
-    c.args.session.now c.answer_alone.new.session c.reserve.ensures.gate c.reserve.ensures.knows _ c.answer_alone.ensures.draws.counted c.doubt-doubt.ensures.guarded.card_key c.doubt-doubt.ensures.stands
+    c.args.session.now c.answer_alone.new.session c.reserve.ensures.gate c.reserve.ensures.knows _ c.answer_alone.ensures.draws.counted c.reveal_invariant.ensures.guarded.card_key c.reveal_invariant.ensures.stands
     c.gate.invariant c.in_err-answer.ensures.serves
 
 pub invariant_of-gate-in-Some : goal.invariant_of-gate-in-Some
 invariant_of-gate-in-Some g c =
     keeps-alone g.F.StoreFile.state g.R.RpmbPort.state g.L.StoreName.store g.L.DevicesName.devices g.E.Entropy.faults c.gate.inside.gate c.reserve.new.self c.answer_alone.new.gate
-    c.args.session.now c.answer_alone.new.session c.reserve.ensures.gate c.reserve.ensures.knows _ c.answer_alone.ensures.draws.counted c.doubt-doubt.ensures.guarded.card_key c.doubt-doubt.ensures.stands
+    c.args.session.now c.answer_alone.new.session c.reserve.ensures.gate c.reserve.ensures.knows _ c.answer_alone.ensures.draws.counted c.reveal_invariant.ensures.guarded.card_key c.reveal_invariant.ensures.stands
     c.gate.invariant c.args.call.now c.in-Some.answer
     (subst
     (λ (o : Option PlacedReply). ServesAlone g.F.StoreFile.state g.R.RpmbPort.state (g.E.Entropy.is_reliable c.args.session.now.entropy) (g.E.Entropy.faults c.args.session.now.entropy)

@@ -1,6 +1,7 @@
 -- The one validation ends the attempt; before it nothing was done.
 use Rattle.shared_calls.proofs.KeptSlots.{keeps-untold}
-use Rattle.shared_calls.proofs.Waiting.{starves, waits-same}
+use Rattle.shared_calls.proofs.Waiting.{starves}
+use Rattle.serial_calls.proofs.GoingOn.{waits-same}
 use Rattle.tee_types.specs.declared.call.Call.TheVariants.{Info}
 use Rattle.shared_calls.proofs.info_call.attempt_at_once.Goals as goal
 

@@ -14,7 +14,7 @@ use Rattle.serial_calls.specs.DeviceCounts.{told_of}
 use Rattle.shared_calls.specs.declared.validation.Validation.{Validation}
 use Rattle.shared_calls.specs.Kept.{KeepsSlot}
 use Rattle.shared_calls.specs.Validations.{EndsLook}
-use Rattle.shared_calls.specs.Attempts.{IsWaiting}
+use Rattle.serial_calls.specs.SessionEvents.{IsWaiting}
 use Rattle.shared_calls.proofs.KeptAnswers.{gate-keeps, slot-keeps}
 use Rattle.shared_calls.proofs.KeptSlots.{keeps-untold}
 use Rattle.shared_calls.proofs.Served.{slot-answers}

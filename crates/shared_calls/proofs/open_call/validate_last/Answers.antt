@@ -9,7 +9,7 @@ use Rattle.dir_index.specs.declared.Held.{Held}
 use Rattle.tee_types.specs.declared.call.Call.TheVariants.{Open}
 use Rattle.shared_calls.specs.declared.validation.Validation.{Validation}
 use Rattle.shared_calls.specs.Validations.{EndsLook}
-use Rattle.shared_calls.specs.Attempts.{IsWaiting}
+use Rattle.serial_calls.specs.SessionEvents.{IsWaiting}
 use Rattle.shared_calls.proofs.OpenedObjects.{loaded-entry}
 use Rattle.shared_calls.proofs.Served.{slot-answers}
 use Rattle.shared_calls.proofs.Waiting.{answers-then}

@@ -37,8 +37,8 @@ invariant_of-gate-2 g c =
     let ready : IsReady store c.validate.new.gate between =
     subst (λ (x : Validation OpenObject). IfFound {X = Unit {0}} (Ok x) (λ found. IsReady store c.validate.new.gate between)) c.in-Found.is c.in_ok-answer.ensures.ready in
     let known =
-    known-card g.F.StoreFile.state g.R.RpmbPort.state old.gate _ c.doubt-doubt.ensures.guarded.card_key
-    (subst (λ (x : GuardedGateValue _ _). IsReady store x between) (sym c.gate.view_is) ready).idle c.doubt-doubt.ensures.stands in
+    known-card g.F.StoreFile.state g.R.RpmbPort.state old.gate _ c.reveal_invariant.ensures.guarded.card_key
+    (subst (λ (x : GuardedGateValue _ _). IsReady store x between) (sym c.gate.view_is) ready).idle c.reveal_invariant.ensures.stands in
     keeps-committed g.F.StoreFile.state g.R.RpmbPort.state store g.L.DevicesName.devices g.E.Entropy.faults old done.new.gate c.args.slot.now.number c.requires.kept.object between done.new.session
     (Rename c.args.handle c.args.id) Done (rename_change c.in-Found.found c.args.id) (g.E.Entropy.is_reliable between.entropy) answer.answer (λ d0 d1. tt) known answer.ensures.committed c.gate.invariant
 

@@ -3,7 +3,8 @@ use Rattle.std.proofs.Common.{Ok, Option, subst, sym}
 use Rattle.call_rules.specs.Plain.{IsPlain}
 use Rattle.serial_calls.specs.declared.PlacedReply.{PlacedReply}
 use Rattle.tee_types.specs.declared.call.Call.TheVariants.{Rename}
-use Rattle.shared_calls.specs.Attempts.{EndsAttempt, IsWaiting}
+use Rattle.shared_calls.specs.Attempts.{EndsAttempt}
+use Rattle.serial_calls.specs.SessionEvents.{IsWaiting}
 use Rattle.shared_calls.proofs.KeptCalls.{keeps-ruled}
 use Rattle.shared_calls.proofs.RefusedCalls.{refused-plain}
 use Rattle.shared_calls.proofs.Served.{ruled-answers}

@@ -6,7 +6,8 @@ use Rattle.call_rules.specs.Told.{IsTold}
 use Rattle.serial_calls.specs.declared.PlacedReply.{PlacedReply}
 use Rattle.store_model.specs.Machine.{MachineState, Session}
 use Rattle.tee_types.specs.declared.call.Call.TheVariants.{Truncate}
-use Rattle.shared_calls.specs.Attempts.{EndsAttempt, IsWaiting}
+use Rattle.shared_calls.specs.Attempts.{EndsAttempt}
+use Rattle.serial_calls.specs.SessionEvents.{IsWaiting}
 use Rattle.shared_calls.proofs.KeptCalls.{keeps-ruled}
 use Rattle.shared_calls.proofs.RefusedCalls.{refused-plain}
 use Rattle.shared_calls.proofs.Served.{ruled-answers}

@@ -10,8 +10,9 @@ use Rattle.tee_types.specs.Rights.{write_bit}
 use Rattle.tee_types.specs.declared.call.Call.TheVariants.{Truncate}
 use Rattle.shared_calls.specs.declared.validation.Validation.{Validation}
 use Rattle.shared_calls.specs.Validations.{EndsLook, IfFound}
-use Rattle.shared_calls.specs.Attempts.{EndsAttempt, IsWaiting}
-use Rattle.shared_calls.proofs.Waiting.{waits-then}
+use Rattle.shared_calls.specs.Attempts.{EndsAttempt}
+use Rattle.serial_calls.specs.SessionEvents.{IsWaiting}
+use Rattle.serial_calls.proofs.GoingOn.{waits-then}
 use Rattle.shared_calls.proofs.truncate_call.validate_first.Goals as goal
 
 pub answer_held-requires-clause-kind : goal.answer_held-requires-clause-kind

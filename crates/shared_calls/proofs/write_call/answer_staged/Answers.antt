@@ -30,7 +30,7 @@ behind g c =
     let done = c.answer_write in
     let ready : IsReady store old c.args.session.now =
     subst (λ (x : GuardedGateValue g.row.F.Denot g.row.R.Denot). IsReady store x c.args.session.now) (sym c.gate.view_is) c.requires.ready in
-    let known = known-card g.F.StoreFile.state g.R.RpmbPort.state old.gate (rpmb_key store.keys.huk) c.doubt-doubt.ensures.guarded.card_key ready.idle c.doubt-doubt.ensures.stands in
+    let known = known-card g.F.StoreFile.state g.R.RpmbPort.state old.gate (rpmb_key store.keys.huk) c.reveal_invariant.ensures.guarded.card_key ready.idle c.reveal_invariant.ensures.stands in
     changed-leaves g.F.StoreFile.state g.R.RpmbPort.state g.E.Entropy.is_reliable g.E.Entropy.faults store g.L.DevicesName.devices old met.new.gate done.new.gate c.args.slot.now met.new.slot done.new.slot
     c.args.session.now met.new.session done.new.session (Write c.args.handle c.args.bytes) found.held (max found.held.entry.size (found.handle.position + length c.args.bytes)) (writing found.handle.position c.args.bytes) c.args.staged done.result
     met.ensures.gate (met.ensures.calm ready.calm) met.ensures.same done.ensures.number done.ensures.file met.ensures.agreed met.ensures.at.1.sees done.ensures.whole known c.requires.staged c.gate.invariant

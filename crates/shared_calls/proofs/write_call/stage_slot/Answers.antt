@@ -2,12 +2,13 @@
 use Rattle.std.proofs.Common.{IfOk, List, ℕ, subst}
 use Rattle.serial_calls.specs.ChangeStaging.{writing}
 use Rattle.shared_calls.specs.SharedChange.{CarriesStaged, HasStaged}
-use Rattle.shared_calls.proofs.StageCounts.{drawn-waits, stage-carries}
+use Rattle.serial_calls.proofs.GoingOn.{waits-drawn}
+use Rattle.shared_calls.proofs.StageCounts.{stage-carries}
 use Rattle.shared_calls.proofs.SharedStages.{has-staged, stage-keeps}
 use Rattle.shared_calls.proofs.write_call.stage_slot.Goals as goal
 
 pub returns-clause-waits : goal.returns-clause-waits
-returns-clause-waits g c = drawn-waits g.L.StoreName.store c.args.session.now c.write_object.new.entropy c.requires.caller
+returns-clause-waits g c = waits-drawn g.L.StoreName.store c.args.session.now c.write_object.new.entropy c.requires.caller
 
 pub returns-clause-staged : goal.returns-clause-staged
 returns-clause-staged g c =

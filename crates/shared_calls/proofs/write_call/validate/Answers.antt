@@ -5,7 +5,8 @@ use Rattle.serial_calls.specs.GateServed.{IsServed}
 use Rattle.serial_calls.specs.declared.PlacedReply.{PlacedReply}
 use Rattle.tee_types.specs.declared.call.Call.{Call}
 use Rattle.tee_types.specs.declared.call.Call.TheVariants.{Write}
-use Rattle.shared_calls.specs.Attempts.{EndsAttempt, IsWaiting}
+use Rattle.shared_calls.specs.Attempts.{EndsAttempt}
+use Rattle.serial_calls.specs.SessionEvents.{IsWaiting}
 use Rattle.shared_calls.proofs.KeptCalls.{keeps-ruled}
 use Rattle.shared_calls.proofs.Served.{ruled-answers}
 use Rattle.shared_calls.proofs.Waiting.{answers-then}

@@ -15,8 +15,10 @@ use Rattle.tee_types.specs.declared.call.Call.{Call}
 use Rattle.tee_types.specs.declared.call.Call.TheVariants.{Write}
 use Rattle.shared_calls.specs.declared.validation.Validation.{Validation}
 use Rattle.shared_calls.specs.Validations.{EndsLook, IfFound}
-use Rattle.shared_calls.specs.Attempts.{EndsAttempt, IsAnswered, IsWaiting}
-use Rattle.shared_calls.proofs.Waiting.{answers-then, waits-then}
+use Rattle.shared_calls.specs.Attempts.{EndsAttempt, IsAnswered}
+use Rattle.serial_calls.specs.SessionEvents.{IsWaiting}
+use Rattle.shared_calls.proofs.Waiting.{answers-then}
+use Rattle.serial_calls.proofs.GoingOn.{waits-then}
 use Rattle.shared_calls.proofs.write_call.validate_first.Goals as goal
 
 pub answer_held-requires-clause-kind : goal.answer_held-requires-clause-kind

@@ -1,6 +1,6 @@
 use Rattle.std.proofs.Common.{Option, sym, subst}
 use Rattle.dir_records.specs.declared.entry.DirEntry.{DirEntry}
-use Rattle.store_commit.specs.declared.change.EntryChange.{EntryChange}
+use Rattle.crash_core.specs.declared.change.EntryChange.{EntryChange}
 use Rattle.store_commit.specs.NameIndex.{ChangesNames, ClearsName}
 use Rattle.store_commit.proofs.NameIndexes.{clear_some}
 use Rattle.store_commit.proofs.names.change_names.Goals as goal

@@ -9,7 +9,7 @@ use Rattle.core_laws.specs.Answered.{AreAnswered}
 use Rattle.commit_gate.specs.JournalCalls.{IsToldAlone}
 use Rattle.commit_gate.specs.Journals.{IsJournal}
 use Rattle.core_laws.specs.TieLaws.{KeepsDoubt}
-use Rattle.commit_gate.specs.GuardedGates.{GateInvariant, GuardedGateValue, change_in_doubt}
+use Rattle.commit_gate.specs.GuardedGates.{GateInvariant, GuardedGateValue}
 use Rattle.commit_gate.proofs.AloneCalls.{alone-guarded, quiet-notes, quiet-opened}
 use Rattle.commit_gate.proofs.guarded_gate.GuardedGate.answer.Goals as goal
 
@@ -27,7 +27,7 @@ invariant_of-self g c =
     let call = c.args.call in
     let reply = c.args.reply in
     let keeps =
-    subst (λ (v : GuardedGateValue g.row.F.Denot g.row.R.Denot). KeepsDoubt (change_in_doubt v.gate.doubt) (CallEvent s.number s.made call reply Unchanged)) (sym c.self.view_is) c.requires.doubt in
+    subst (λ (v : GuardedGateValue g.row.F.Denot g.row.R.Denot). KeepsDoubt v.gate.doubt (CallEvent s.number s.made call reply Unchanged)) (sym c.self.view_is) c.requires.doubt in
     subst (λ (k : GateView). GateInvariant store inside.gate k inside.closing) (sym c.answer.ensures.knows)
     (alone-guarded store inside.journal.knows s.number s.made call reply inside.gate inside.gate.open_handles inside.closing c.requires.moved.was.known keeps
     (quiet-notes call reply inside.gate.open_handles 0 s.number c.requires.handles) (λ m. quiet-opened call reply inside.gate.dir.dir.entries m s.number 0 c.requires.handles)

@@ -50,7 +50,7 @@ invariant_of-self-in-Landed g c =
     (ap (λ (v : GateValue g.row.F.Denot g.row.R.Denot). v.dir.dir.root.format) same ∙ landed.format)
     (ap (λ (v : GateValue g.row.F.Denot g.row.R.Denot). v.host.key) same ∙ here.ensures.key)
     (ap (λ (v : GateValue g.row.F.Denot g.row.R.Denot). v.dir.dir.entries) same ∙ landed.entries)
-    (doubted-distinct old gate.doubt d.0 d.1 c.doubt-number.ensures.stands)
+    (doubted-distinct old gate.doubt d.0 d.1 c.reveal_invariant.ensures.stands)
     (subst (λ t. Closes c.self.inside.closing t c.close.new.gate.open_handles) here.ensures.open_handles c.close.ensures.closes)
     (subst (IsJournal store) view c.append_landed.ensures.kept))
 

@@ -1,9 +1,11 @@
 -- Where the attempt in one look ended nothing, the call goes the long way behind it.
 use Rattle.std.proofs.Common.{Ok, Option, subst}
-use Rattle.shared_calls.specs.Attempts.{EndsAttempt, IsWaiting}
+use Rattle.shared_calls.specs.Attempts.{EndsAttempt}
+use Rattle.shared_calls.specs.SessionEvents.{IsWaiting}
 use Rattle.shared_calls.specs.declared.PlacedReply.{PlacedReply}
 use Rattle.shared_calls.proofs.CarriedAttempts.{call-grown}
-use Rattle.shared_calls.proofs.Waiting.{calls-then, starves-then, waits-same}
+use Rattle.shared_calls.proofs.Waiting.{calls-then, starves-then}
+use Rattle.shared_calls.proofs.GoingOn.{waits-same}
 use Rattle.shared_store.proofs.store.SharedStore.call.Goals as goal
 
 pub returns-in_err-answer-clause-ends : goal.returns-in_err-answer-clause-ends
@@ -18,7 +20,7 @@ call_from-requires g c =
     let between = c.try_at_once.new.session in
     let waits : IsWaiting store c.args.session.now between =
     subst (λ (o : Option PlacedReply). EndsAttempt {X = Unit {0}} store c.args.session.now between c.args.call.now (Ok o)) c.in_default.is c.in_ok-answer.ensures.ends in
-    record { caller = waits.whole }
+    record { caller = waits.caller }
 
 pub returns-clause-ends : goal.returns-clause-ends
 returns-clause-ends g c =

@@ -3,7 +3,8 @@ use Rattle.std.proofs.Common.{Ok, Option, refl, subst}
 use Rattle.shared_calls.specs.Attempts.{EndsAttempt}
 use Rattle.shared_calls.specs.declared.PlacedReply.{PlacedReply}
 use Rattle.shared_calls.proofs.CountGrowth.{draws_none, draws_then}
-use Rattle.shared_calls.proofs.Waiting.{answers-then, starves-then, waits-same, waits-then}
+use Rattle.shared_calls.proofs.Waiting.{answers-then, starves-then}
+use Rattle.shared_calls.proofs.GoingOn.{waits-same, waits-then}
 use Rattle.shared_store.proofs.store.SharedStore.call_from.Goals as goal
 
 pub loop-init : goal.loop-init

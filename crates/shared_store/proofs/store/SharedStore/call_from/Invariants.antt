@@ -1,5 +1,5 @@
 use Rattle.shared_calls.specs.Devices.{DrawsOn}
-use Rattle.shared_calls.specs.Attempts.{IsWaiting}
+use Rattle.shared_calls.specs.SessionEvents.{IsWaiting}
 use Rattle.shared_store.proofs.store.SharedStore.call_from.Given as goal
 
 abbrev pub invariant-loop : goal.invariant-loop

@@ -1,5 +1,5 @@
 -- The attempt is made with the lock, or not at all.
-use Rattle.shared_calls.proofs.Waiting.{waits-same}
+use Rattle.shared_calls.proofs.GoingOn.{waits-same}
 use Rattle.shared_store.proofs.store.SharedStore.try_at_once.Goals as goal
 
 pub returns-in_default-clause-ends : goal.returns-in_default-clause-ends

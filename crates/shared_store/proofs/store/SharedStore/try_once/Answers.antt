@@ -3,7 +3,7 @@ use Rattle.std.proofs.Common.{ℕ, subst, sym, Ok}
 use Rattle.shared_calls.specs.CallerSessions.{CallerSession, IsCallerOf}
 use Rattle.shared_calls.specs.Devices.{DrawsOn, Grows}
 use Rattle.shared_calls.specs.declared.validation.Validation.{Validation}
-use Rattle.shared_calls.specs.Attempts.{IsWaiting}
+use Rattle.shared_calls.specs.SessionEvents.{IsWaiting}
 use Rattle.shared_calls.specs.Validations.{EndsLook}
 use Rattle.shared_calls.proofs.CarriedAttempts.{attempt-grown}
 use Rattle.shared_calls.proofs.CountGrowth.{draws_then}
@@ -17,7 +17,7 @@ attempt-requires-clause-caller g c =
     let between = c.file_of.new.session in
     let waits : IsWaiting store was between =
     subst (λ (x : Validation ℕ). EndsLook {X = Unit {0}} store was between c.args.call.now (Ok x)) c.in-Found.is c.in_ok-answer.ensures.ends in
-    subst (IsCallerOf store) (sym c.note_file.ensures) waits.whole
+    subst (IsCallerOf store) (sym c.note_file.ensures) waits.caller
 
 pub returns-in_default-clause-ends : goal.returns-in_default-clause-ends
 returns-in_default-clause-ends g c =

@@ -1,6 +1,6 @@
 use Rattle.std.proofs.Common.{◌∙◌, ◌≤◌, None, get_or, ap, sym, subst}
 use Rattle.crash_core.specs.EntryChanges.{file_put}
-use Rattle.store_commit.specs.Changes.{FitsIn, change_of}
+use Rattle.store_commit.specs.Changes.{FitsIn}
 use Rattle.store_commit.specs.Holds.{IsTaken}
 use Rattle.store_commit.specs.Sides.{sides}
 use Rattle.store_commit.proofs.Gating.{doubted_gate, made_gate}
@@ -36,5 +36,5 @@ invariant_of-self-in-Doubtful g c =
     c.args.change c.in-Doubtful.number i.doubt i.index i.holds
     (ap (λ v. v.doubt) c.self.view_is ∙ c.requires.idle) c.in-Doubtful.ensures.leaves
     (subst (λ v. FitsIn v.dir.dir.entries c.args.change) (sym c.self.view_is) c.requires.fits)
-    (subst (λ v. IsTaken v.dir.dir.entries v.holds (file_put (change_of c.args.change))) (sym c.self.view_is) c.requires.taken)
+    (subst (λ v. IsTaken v.dir.dir.entries v.holds (file_put c.args.change)) (sym c.self.view_is) c.requires.taken)
     (subst (λ v. 1 ≤ v.room) (sym c.self.view_is) c.requires.room) c.self.invariant
