@@ -11,7 +11,6 @@ ghost use Rattle.commit_gate.specs.SessionMoves.{MayMove, moved_by};
 
 use crate::end_versions::{MadeVersions, UnmadeVersions};
 use crate::guarded_gate::Closing;
-use crate::open_handles::note_call;
 use crate::session_moves::{SessionMove, apply};
 use crate::{AppendedCall, Journal, Session, VersionsName, append_call};
 use core_laws::StoreName;
@@ -58,7 +57,7 @@ fn end_made<F: StoreFile + Drop, R: RpmbPort + Drop, L: StoreName, E: Entropy, N
     ensures appended { IsAppended L.store journal.old.knows journal.new.knows call reply (Mark.Made number) slot (made_versions N.versions) session.old
         (record session.old { state = moved_by session.old.state step }) session.new result }
 {
-    let (call, reply) = note_call(gate, slot.file(), session.number(), call, reply);
+    gate.note(slot.file(), session.number(), &call, &reply);
     apply(session, step);
     append_call::<L, E, MadeVersions<N>>(
         journal,

@@ -45,17 +45,7 @@ impl<F: StoreFile + Drop, R: RpmbPort + Drop, L: StoreName> GuardedGate<F, R, L>
         ensures whole { IsCallerOf L.store session.new }
         ensures extends { Extends L.store (session_value session.old) (session_value session.new) (Event.Call session.old.number session.old.made call reply Mark.Unchanged) result.0 }
     {
-        let event = Event::Call {
-            session: session.number(),
-            number: session.made(),
-            call,
-            reply,
-            mark: Mark::Unchanged,
-        };
-        self.gate.note(slot.file(), &event);
-        let Event::Call { call, reply, .. } = event else {
-            unreachable!()
-        };
+        self.gate.note(slot.file(), session.number(), &call, &reply);
         let AppendedCall { place, slot } = append_call::<L, E, Brand>(
             &mut self.journal,
             Some(slot),

@@ -6,12 +6,12 @@ ghost use Rattle.crash_core.specs.DirectoryLaws.{AreEntries};
 ghost use Rattle.store_commit.specs.Gates.{DoubtStands, gate_sides};
 ghost use Rattle.commit_gate.specs.KnownMachine.{KnowsMachine};
 
-use crate::Journal;
+use crate::{Journal, Session};
 use core_laws::StoreName;
 use rpmb_card::RpmbPort;
 use std::marker::Model;
 use store_commit::Gate;
-use tee_ports::StoreFile;
+use tee_ports::{Entropy, StoreFile};
 use tee_types::NoMemory;
 
 /// A handle of a session.
@@ -92,12 +92,13 @@ impl<F: StoreFile + Drop, R: RpmbPort + Drop, L: StoreName> GuardedGate<F, R, L>
         self.gate.reveal_invariant();
     }
 
-    /// Makes room for one commit, for one handle more and for two events: a landing, and a call.
+    /// Makes room for one commit, for one handle more and for two events: a landing, and a call of the session. It takes the memory first that the
+    /// session had made for its event.
     ///
     /// # Errors
     ///
     /// Memory ran out. Nothing changed but that there may be room.
-    pub fn reserve(&mut self) -> Result<(), NoMemory>
+    pub fn reserve<E: Entropy>(&mut self, session: &Session<E>) -> Result<(), NoMemory>
         ensures room { OnOk result ((1 ≤ self.new.gate.room) × (1 ≤ self.new.gate.open_handles.spare) × (2 ≤ self.new.journal.spare)) }
         ensures handles { self.new.gate.open_handles.records ≡ self.old.gate.open_handles.records }
         ensures gate { self.new.gate ≡ record self.old.gate { open_handles = self.new.gate.open_handles; room = self.new.gate.room } }
@@ -107,7 +108,7 @@ impl<F: StoreFile + Drop, R: RpmbPort + Drop, L: StoreName> GuardedGate<F, R, L>
         ensures grows { (self.old.gate.room ≤ self.new.gate.room) × (self.old.gate.open_handles.spare ≤ self.new.gate.open_handles.spare) }
         ensures spare { self.old.journal.spare ≤ self.new.journal.spare }
     {
-        self.journal.reserve(2)?;
+        self.journal.reserve(2, session.take_room())?;
         self.gate.reserve()
     }
 }

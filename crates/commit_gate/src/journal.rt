@@ -18,7 +18,7 @@ use history_seats::{
     Appended, GateSeat, HalfSeat, Halves, HistoryTable, KeptSeat, PassSeat, Refreshed, SlotSeat,
 };
 use std::marker::{Model, PhantomData};
-use store_model::{Event, History};
+use store_model::{Event, EventRoom, History};
 use tee_types::NoMemory;
 
 /// The history of the store that `L` names, with the gate's seat, which knows all of it.
@@ -59,13 +59,13 @@ impl<L: StoreName> Journal<L> {
         }
     }
 
-    /// Makes room for n more events, and keeps the room that was there.
-    pub fn reserve(&mut self, n: usize) -> Result<(), NoMemory>
+    /// Makes room for n more events, and keeps the room that was there. It takes the memory first that is given for one.
+    pub fn reserve(&mut self, n: usize, given: Option<EventRoom>) -> Result<(), NoMemory>
         ensures knows { self.new.knows ≡ self.old.knows }
         ensures room { OnOk result (n ≤ self.new.spare) }
         ensures spare { self.old.spare ≤ self.new.spare }
     {
-        self.history.reserve(n)
+        self.history.reserve(n, given)
     }
 
     /// How many events there are. The next one has this place.

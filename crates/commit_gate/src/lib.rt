@@ -25,7 +25,6 @@ mod journal;
 mod journal_calls;
 mod journal_laws;
 pub mod machine_laws;
-mod open_handles;
 mod own_doubt;
 mod placed_reply;
 pub mod reply_laws;

@@ -10,8 +10,10 @@ use crate::file_hints::FileHints;
 use crate::own_doubt::{Landing, OwnDoubt, landing_of};
 use enumerators::{Cursor, EnumFault};
 use history_seats::PassSeat;
+use std::alloc::Global;
+use std::cell::Cell;
 use std::marker::Model;
-use store_model::{Handle, ObjectName, Session as SessionState};
+use store_model::{EventRoom, Handle, ObjectName, Session as SessionState};
 use tee_ports::Entropy;
 use tee_types::{AppId, Call, Flags, ObjectId};
 
@@ -27,8 +29,9 @@ pub struct Session<E> {
     state: SessionState,
     doubt: Option<OwnDoubt>,
     entropy: E,
-    // Nothing depends on it.
+    // Nothing depends on these two.
     hints: FileHints,
+    room: Cell<Option<EventRoom>>,
 }
 
 impl<E> Model for Session<E> {
@@ -63,6 +66,7 @@ impl<E: Entropy> Session<E> {
             doubt: None,
             entropy,
             hints: FileHints::new(),
+            room: Cell::new(None),
         }
     }
 
@@ -126,6 +130,7 @@ impl<E: Entropy> Session<E> {
             doubt: _,
             entropy: _,
             hints: _,
+            room: _,
         } = self;
         let Some(pass) = pass else { unreachable!() };
         pass
@@ -149,6 +154,20 @@ impl<E: Entropy> Session<E> {
         ensures { self.new ≡ self.old }
     {
         self.hints.note(handle, file);
+    }
+
+    /// Has memory for its next event made, where it has none. Else the gate makes it, which then is longer behind its lock.
+    pub fn make_room(&self, alloc: Global) {
+        let room = match self.take_room() {
+            Some(room) => Some(room),
+            None => EventRoom::new(alloc).ok(),
+        };
+        self.room.set(room);
+    }
+
+    /// Gives the memory for its next event, if it has some.
+    pub(crate) fn take_room(&self) -> Option<EventRoom> {
+        self.room.replace(None)
     }
 
     /// The machine's session.

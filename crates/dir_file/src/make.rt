@@ -28,8 +28,7 @@ fn free_entries(alloc: Global) -> Result<Vec<Option<DirEntry>>, NoMemory>
     ensures { IfOk result (λ v. v.items ≡ no_entries) }
 {
     let mut entries = Vec::new(alloc);
-    for i in 0..256u16 {
-        let _ = i;
+    for _ in 0..256u16 {
         entries.push(None)?;
     }
     Ok(entries)

@@ -17,8 +17,7 @@ pub(crate) fn free_places<F: Drop>(alloc: Global) -> Result<Vec<Option<F>>, NoMe
     ensures { IfOk result (λ places. AreFree places.items) }
 {
     let mut places = Vec::with_capacity(alloc, usize::from(MAX_FILE))?;
-    for i in 0..MAX_FILE {
-        let _ = i;
+    for _ in 0..MAX_FILE {
         places.push(None)?;
     }
     Ok(places)

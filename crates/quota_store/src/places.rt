@@ -19,8 +19,7 @@ fn make_places(alloc: Global) -> Result<Vec<Option<KeptSeat>>, NoMemory>
     ensures { IfOk result (λ places. AreEmptyPlaces places.items) }
 {
     let mut places = Vec::with_capacity(alloc, MAX_SESSIONS)?;
-    for i in 0..MAX_SESSIONS {
-        let _ = i;
+    for _ in 0..MAX_SESSIONS {
         places.push(None)?;
     }
     Ok(places)

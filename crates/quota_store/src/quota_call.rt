@@ -160,6 +160,7 @@ pub(crate) fn serve_app<
     }
     let other = take_half(&mut halves.kept, session.number())?;
     let one = session.lend_half();
+    session.session.make_room(alloc);
     let (half, outcome) = serve_locked(
         rt,
         alloc,

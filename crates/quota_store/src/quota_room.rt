@@ -53,8 +53,7 @@ fn make_app_places(alloc: Global) -> Result<Vec<EmptyPlaces>, NoMemory>
     ensures { IfOk result (λ places. vec_len places ≡ 16) }
 {
     let mut places = Vec::with_capacity(alloc, MAX_SESSIONS)?;
-    for i in 0..MAX_SESSIONS {
-        let _ = i;
+    for _ in 0..MAX_SESSIONS {
         places.push(EmptyPlaces::make(alloc)?)?;
     }
     Ok(places)

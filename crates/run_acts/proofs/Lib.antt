@@ -13,6 +13,7 @@ pub mod MemoryCounts
 pub mod Listed
 pub mod ListedBenches
 pub mod ListedEntries
+mod DoneCalls
 mod Lists
 pub mod MountedBenches
 pub mod OpenedBenches

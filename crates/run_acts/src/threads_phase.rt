@@ -17,7 +17,7 @@ ghost use Rattle.run_acts.specs.Closing.{ClosesEarly};
 ghost use Rattle.run_acts.specs.OwnCalls.{HaveWorked};
 ghost use Rattle.run_acts.specs.Sharing.{AreKept, IsBenchOf, opening_devices};
 
-use crate::done_calls::are_done;
+use crate::done_calls::have_made;
 use crate::own_calls::make_own_calls;
 use crate::shared_slots::{SharedSlots, share_slots, unshare_slots};
 use core_laws::StoreName;
@@ -100,7 +100,7 @@ fn share_and_close<
     make_beside(rt, alloc, &store, &mut sessions, calls);
     let (gate, slots) = store.into_parts();
     let slots = unshare_slots(slots, emptied);
-    let done = are_done(&sessions, calls);
+    let done = have_made(&sessions, calls.len());
     let closed = close_slots(gate.into_gate(), slots, places, room, spare, sessions);
     if done { Ok(closed) } else { Err(closed.bench) }
 }

@@ -112,12 +112,12 @@ pub fn serve<F: StoreFile + Drop, R: RpmbPort + Drop, L: StoreName, E: Entropy>(
         (record { gate = gate.new; slots = slots.new.items; session = session.new }) call.now result }
 {
     gate.reveal_invariant();
-    gate.reserve()?;
+    gate.reserve(&*session)?;
     if let Some(answer) = answer_alone(alloc, gate, session, call)? {
         return Ok(answer);
     }
     // A landing may have taken of that room.
-    gate.reserve()?;
+    gate.reserve(&*session)?;
     gate.reveal_invariant();
     serve_object(alloc, gate, slots, storage_key, session, call)
 }

@@ -5,12 +5,16 @@ ghost use Rattle.serial_calls.specs.Rules.{IsCreate, new_object};
 
 use tee_types::{Bytes, Call, Flags, ObjectId};
 
-/// The parts of a create: the identifier of the new object, its flags, its attributes and its data.
+/// The parts of a create: TEE_CreatePersistentObject.
 #[derive(Clone, Copy, Drop)]
 pub struct NewObject<'a> {
+    /// The new object's identifier.
     pub id: ObjectId,
+    /// The rights of its handle, and whether an object of that name may be replaced.
     pub flags: Flags,
+    /// Attributes, one opaque string.
     pub attributes: &'a Bytes,
+    /// The object's data.
     pub bytes: &'a Bytes,
 }
 

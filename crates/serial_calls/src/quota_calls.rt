@@ -75,7 +75,7 @@ fn serve_growing<F: StoreFile + Drop, R: RpmbPort + Drop, L: StoreName, E: Entro
         (devices_in F.state R.state E.faults (record { gate = gate.new; slots = slots.new.items; session = session.new }))) }
 {
     gate.reveal_invariant();
-    gate.reserve()?;
+    gate.reserve(&*session)?;
     let forecast = match forecast(alloc, gate, session, call)? {
         Ok(forecast) => forecast,
         Err(answer) => return Ok(QuotaOutcome::Answered(answer)),
@@ -84,7 +84,7 @@ fn serve_growing<F: StoreFile + Drop, R: RpmbPort + Drop, L: StoreName, E: Entro
         return Ok(QuotaOutcome::Refused(forecast.place));
     }
     // A landing may have taken of that room.
-    gate.reserve()?;
+    gate.reserve(&*session)?;
     gate.reveal_invariant();
     let answer = serve_object(alloc, gate, slots, storage_key, session, call)?;
     Ok(QuotaOutcome::Answered(answer))

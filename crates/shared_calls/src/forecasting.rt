@@ -32,6 +32,6 @@ pub fn forecast<F: StoreFile + Drop, R: RpmbPort + Drop, L: StoreName + DevicesN
     ensures drawn { IfOk result (λ found. IfErr found (λ answer. CarriesDraws (E.faults session.old.entropy) (E.faults session.new.entropy) answer.reply)) }
 {
     gate.gate.reveal_invariant();
-    gate.gate.reserve()?;
+    gate.gate.reserve(&*session)?;
     serial_calls::forecast(alloc, &mut gate.gate, session, call)
 }

@@ -46,11 +46,11 @@ pub(crate) fn begin<
     ensures counter { IfOk result (λ answer. IsNone answer → gate.old.gate.doubt ≡ None → gate.new.gate.counter ≡ gate.old.gate.counter) }
 {
     gate.gate.reveal_invariant();
-    gate.gate.reserve()?;
+    gate.gate.reserve(&*session)?;
     if let Some(answer) = answer_alone(alloc, &mut gate.gate, session, call)? {
         return Ok(Some(answer));
     }
-    gate.gate.reserve()?;
+    gate.gate.reserve(&*session)?;
     Ok(None)
 }
 

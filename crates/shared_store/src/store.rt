@@ -190,6 +190,7 @@ impl<F: StoreFile + Drop, R: RpmbPort + Drop, L: StoreName + DevicesName> Shared
         ensures draws { DrawsOn E.is_reliable E.faults session.old.entropy session.new.entropy }
         ensures drawn { IfOk result (λ answer. CarriesDraws (E.faults session.old.entropy) (E.faults session.new.entropy) answer.reply) }
     {
+        session.make_room(alloc);
         if let Some(answer) = self.try_at_once(rt, alloc, session, call)? {
             return Ok(answer);
         }

@@ -11,7 +11,6 @@ pub mod NameIndex
 pub mod Holds
 pub mod Gates
 pub mod Resolving
-pub mod Noting
 pub mod Blocks
 pub mod Reads
 pub mod Counts

@@ -3,7 +3,6 @@
 ghost use Rattle.std.specs.Prelude.{◌≡◌, ◌≤◌, ◌+◌, OnOk};
 ghost use Rattle.store_commit.specs.Gates.{names_due};
 ghost use Rattle.store_commit.specs.NameIndex.{HasSameNames};
-ghost use Rattle.store_commit.specs.Noting.{Notes};
 ghost use Rattle.open_table.specs.HandleChanges.{DropsHandle, NotesReply};
 
 use crate::gate::Gate;
@@ -11,7 +10,6 @@ use crash_core::{DoubtedChange, EntryChange};
 use dir_index::DirIndex;
 use open_table::OpenTable;
 use rpmb_card::RpmbPort;
-use store_model::Event;
 use tee_ports::StoreFile;
 use tee_types::{Call, NoMemory, Reply};
 
@@ -77,22 +75,14 @@ impl<F: StoreFile + Drop, R: RpmbPort + Drop> Gate<F, R> {
         self.handles.reserve()
     }
 
-    /// Adds the open handle that an event names, or takes it away: a Create or an Open that was answered with a handle adds it, on that
-    /// file; a Close or a Delete that was done takes it away. Other events change nothing.
-    pub fn note(&mut self, file: u16, event: &Event)
+    /// Adds the open handle that a session's call with its reply names, or takes it away: a Create or an Open that was answered with a handle
+    /// adds it, on that file; a Close or a Delete that was done takes it away. Other calls change nothing.
+    pub fn note(&mut self, file: u16, session: u32, call: &Call, reply: &Reply)
         requires room { 1 ≤ self.old.open_handles.spare }
-        ensures notes { Notes self.old.open_handles self.new.open_handles file event.now }
+        ensures notes { NotesReply self.old.open_handles self.new.open_handles file session call.now reply.now }
         ensures same { self.new ≡ record self.old { open_handles = self.new.open_handles } }
     {
-        match event {
-            Event::Call {
-                session,
-                call,
-                reply,
-                ..
-            } => note_reply(&mut self.handles, file, *session, call, reply),
-            Event::Landed { .. } => {}
-        }
+        note_reply(&mut self.handles, file, session, call, reply);
     }
 
     /// Takes a session's handle away, where it is open: that of a Delete which was in doubt and landed.

@@ -10,7 +10,7 @@ mod session;
 mod state;
 
 pub use event::{Event, Mark};
-pub use history::History;
+pub use history::{EventRoom, History};
 pub use name::ObjectName;
 pub use session::{Handle, Session};
 pub use state::State;

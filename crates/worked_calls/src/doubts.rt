@@ -47,7 +47,7 @@ fn land_doubt(table: &HistoryTable, gate: &mut GateSeat, history: &mut History) 
 pub fn print(rt: &impl Print, alloc: Global) -> anyhow::Result<()> {
     let (table, mut gate) = HistoryTable::make(alloc)?;
     let mut history = History::new(alloc);
-    history.reserve(2)?;
+    history.reserve(2, None)?;
     let (place, pass) = land_doubt(&table, &mut gate, &mut history);
     println!(rt; "history_seats: place of a doubt that lands -> {place}")?;
     println!(rt; "history_seats: session of its pass -> {}", pass.session())?;

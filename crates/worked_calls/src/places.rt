@@ -61,7 +61,7 @@ fn serve_three(table: &HistoryTable, gate: &mut GateSeat, history: &mut History)
 pub fn print(rt: &impl Print, alloc: Global) -> anyhow::Result<()> {
     let (table, mut gate) = HistoryTable::make(alloc)?;
     let mut history = History::new(alloc);
-    history.reserve(3)?;
+    history.reserve(3, None)?;
     let served = serve_three(&table, &mut gate, &mut history);
     println!(rt;
         "history_seats: places of three calls -> {:?}",

@@ -74,7 +74,7 @@ impl<L: TableName> Model for Caller<L> {
 
 /// Makes the session's next call.
 fn call_once<L: TableName>(desk: &mut Desk<L>, caller: &mut Caller<L>) {
-    if caller.made >= CALLS || desk.history.reserve(1).is_err() {
+    if caller.made >= CALLS || desk.history.reserve(1, None).is_err() {
         return;
     }
     let Some(pass) = caller.pass.take() else {

@@ -1,7 +1,5 @@
--- The call, its reply and the session are those of which the record was asked to be fair.
+-- The session is the one of which the record was asked to be fair.
 use Rattle.std.proofs.Common.{sym, subst}
-use Rattle.tee_types.specs.declared.call.Call.{Call}
-use Rattle.tee_types.specs.declared.reply.Reply.{Reply}
 use Rattle.store_model.specs.declared.event.Mark.TheVariants.{Made}
 use Rattle.history_seats.specs.Changes.{IsFitting}
 use Rattle.core_laws.specs.Answered.{IsFairAt}
@@ -14,29 +12,22 @@ use Rattle.commit_gate.proofs.Endings.{moved_appended}
 use Rattle.commit_gate.proofs.commit_ends.end_made.Goals as goal
 
 pub append_call-requires-clause-moved : goal.append_call-requires-clause-moved
-append_call-requires-clause-moved g c =
-    let gives = sym c.note_call-call.ensures.gives in
-    subst (λ (x : CallerSession g.row.E.Denot × Call × Reply). IsMovedBy g.L.StoreName.store c.args.journal.now.knows
-    (file_record x.0.number x.0.made x.1 x.2 (Made c.args.number) c.args.slot.knows (made_versions g.N.VersionsName.versions)) x.0)
-    (λ i. (sym c.apply.ensures i, (gives i).0, (gives i).1)) c.requires.append.moves
+append_call-requires-clause-moved g c = subst (λ (s : CallerSession g.row.E.Denot). IsMovedBy g.L.StoreName.store c.args.journal.now.knows
+    (file_record s.number s.made c.args.call c.args.reply (Made c.args.number) c.args.slot.knows (made_versions g.N.VersionsName.versions)) s)
+    (sym c.apply.ensures) c.requires.append.moves
 
 pub append_call-requires-clause-fitting : goal.append_call-requires-clause-fitting
-append_call-requires-clause-fitting g c =
-    let gives = sym c.note_call-call.ensures.gives in
-    subst (λ (x : CallerSession g.row.E.Denot × Call × Reply). IsFitting c.args.journal.now.knows
-    (file_record x.0.number x.0.made x.1 x.2 (Made c.args.number) c.args.slot.knows (made_versions g.N.VersionsName.versions)))
-    (λ i. (sym c.apply.ensures i, (gives i).0, (gives i).1)) c.requires.append.fitting
+append_call-requires-clause-fitting g c = subst (λ (s : CallerSession g.row.E.Denot). IsFitting c.args.journal.now.knows
+    (file_record s.number s.made c.args.call c.args.reply (Made c.args.number) c.args.slot.knows (made_versions g.N.VersionsName.versions)))
+    (sym c.apply.ensures) c.requires.append.fitting
 
 pub append_call-requires-clause-fair : goal.append_call-requires-clause-fair
-append_call-requires-clause-fair g c = λ scenario.
-    let gives = sym c.note_call-call.ensures.gives in
-    subst (λ (x : CallerSession g.row.E.Denot × Call × Reply). IsFairAt g.L.StoreName.store scenario c.args.journal.now.knows.all
-    (file_record x.0.number x.0.made x.1 x.2 (Made c.args.number) c.args.slot.knows (made_versions g.N.VersionsName.versions)))
-    (λ i. (sym c.apply.ensures i, (gives i).0, (gives i).1)) (c.requires.append.fair scenario)
+append_call-requires-clause-fair g c = λ scenario. subst (λ (s : CallerSession g.row.E.Denot). IsFairAt g.L.StoreName.store scenario c.args.journal.now.knows.all
+    (file_record s.number s.made c.args.call c.args.reply (Made c.args.number) c.args.slot.knows (made_versions g.N.VersionsName.versions)))
+    (sym c.apply.ensures) (c.requires.append.fair scenario)
 
 pub returns-clause-appended : goal.returns-clause-appended
 returns-clause-appended g c =
-    let gives = c.note_call-call.ensures.gives in
     let store = g.L.StoreName.store in
     let before = c.args.journal.now.knows in
     let after = c.append_call.new.journal.knows in
@@ -45,8 +36,8 @@ returns-clause-appended g c =
     let ends = c.append_call.ensures in
     moved_appended store before after c.args.call c.args.reply (Made c.args.number) c.args.slot versions s c.append_call.new.session c.append_call.result
     (moved_by s.state c.args.step) s.doubt
-    (subst (λ (x : CallerSession g.row.E.Denot × Call × Reply). IsAppended store before after x.1 x.2 (Made c.args.number) c.args.slot versions x.0 x.0 c.append_call.new.session c.append_call.result)
-    (λ i. (c.apply.ensures i, (gives i).0, (gives i).1))
+    (subst (λ (x : CallerSession g.row.E.Denot). IsAppended store before after c.args.call c.args.reply (Made c.args.number) c.args.slot versions x x c.append_call.new.session c.append_call.result)
+    c.apply.ensures
     (record {
       place = ends.place;
       knows = ends.knows;

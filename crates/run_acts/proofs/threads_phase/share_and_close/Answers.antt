@@ -1,5 +1,5 @@
-use Rattle.std.proofs.Common.{◌≡◌, ◌∙◌, ℕ, List, length, true, sym, ap, subst, arith}
-use Rattle.std.specs.List.{list_all}
+use Rattle.std.proofs.Common.{◌≡◌, ◌≤◌, ◌∙◌, ℕ, List, length, sym, ap, subst, arith}
+use Rattle.std.specs.List.{sum_by}
 use Rattle.tee_types.specs.Limits.{last_file}
 use Rattle.quota_store.specs.CallerSessions.{CallerSession}
 use Rattle.quota_store.specs.SlotValues.{SlotValue}
@@ -7,10 +7,10 @@ use Rattle.object_calls.specs.FinishedPhase.{HaveCounted}
 use Rattle.object_calls.specs.OpeningSessions.{AreCallers, AreSeated, HaveNoEvents}
 use Rattle.object_calls.proofs.Files.{refilled}
 use Rattle.run_acts.specs.Closing.{served}
-use Rattle.run_acts.specs.OwnCalls.{is_done}
 use Rattle.run_acts.specs.Sharing.{AreKept}
 use Rattle.run_acts.specs.Reliable.{AreFresh, AreReliable}
 use Rattle.run_acts.specs.ServedSteps.{AreCalls}
+use Rattle.run_acts.proofs.DoneCalls.{all-done}
 use Rattle.run_acts.proofs.ThreadClosings.{all_drawn, all_serve, all_undrawn, bench_shared, closes_shared, front_serves, worked_callers}
 use Rattle.run_acts.proofs.threads_phase.share_and_close.Goals as goal
 
@@ -53,11 +53,11 @@ returns-then-done-clause-closed g c =
     let closed = c.close_slots-closed in
     let seated = subst (λ (l : List (CallerSession g.row.E.Denot)). AreSeated store l) (sym begun) c.requires.sessions in
     let unmade = subst (λ (l : List (CallerSession g.row.E.Denot)). HaveNoEvents l) (sym begun) c.requires.unmade in
-    let done : list_all (is_done calls) new ≡ true =
-    ap (list_all (is_done calls)) (sym left ∙ sym c.deref.ensures.value) ∙ sym c.are_done-done.ensures ∙ c.if-done.true in
     let counted = subst (λ (l : List (CallerSession g.row.E.Denot)). HaveCounted gate.journal.knows l) left closed.ensures.counted in
     let fresh = subst (λ (l : List (CallerSession g.row.E.Denot)). AreFresh g.E.Entropy.faults l) (sym begun) c.requires.fresh in
     let steps = subst (λ (l : List (CallerSession g.row.E.Denot)). AreCalls (length l) calls) (sym begun) c.requires.calls in
+    let many_made = subst (λ (l : List (CallerSession g.row.E.Denot)). length calls ≤ sum_by (λ s. s.made) l) (c.deref.ensures.value ∙ left) (c.have_made-done.ensures.made c.if-done.true) in
+    let done = all-done g.E.Entropy.is_reliable g.E.Entropy.faults store was new calls seated unmade c.make_beside.auto.sessions c.make_beside.ensures steps many_made in
     closes_shared g.F.StoreFile.state g.R.RpmbPort.state store g.L.DevicesName.devices gate c.into_gate.ensures.keeps slots.items
     (subst (λ (n : ℕ). AreKept g.L.DevicesName.devices n slots.items) place c.unshare_slots-slots.ensures.keep) closed.result.bench.files.items closed.result.bench.card closed.ensures.dir
     (closed.ensures.spare ∙ ap g.F.StoreFile.state c.into_parts-gate.ensures.spare ∙ c.requires.spare) closed.ensures.placed closed.ensures.tagged (AreReliable g.E.Entropy.is_reliable sessions.items) calls closed.result.history.events closed.result.doubt closed.ensures.events
