@@ -4,7 +4,7 @@ use Rattle.std.specs.Prelude.{slice_index_or}
 use Rattle.std.specs.Int.{bit_at}
 use lib.Lanes.{zip2}
 use Rattle.std.proofs.lemmas.Bool.{cases_lt}
-use Rattle.std.proofs.lemmas.Nat.Bits.{bit_at_xor, bit_at_and, bit_at-zero, bit_at-lt}
+use Rattle.std.proofs.lemmas.Nat.Bits.{bit_at_xor, bit_at_and, bit_at_ones, bit_at-zero, bit_at-lt}
 use Rattle.std.proofs.lemmas.Simd.{get_or-zip2, length-zip2, get_or-replicate, pick_l_whole, map-map}
 use Rattle.std.proofs.Math.ListN.{get_or-map}
 use Rattle.std.proofs.lemmas.List.{length-map, get_or_past}
@@ -81,6 +81,9 @@ module _ (j t : ℕ) (lt : j < 16) where
 
   bit_zeros : bit_of zeros ≡ 0
   bit_zeros = ap (λ (n : ℕ). bit_at n t) (get_or-replicate 16 j 0 0 lt) ∙ bit_at-zero t
+
+  pub bit_ones : t < 8 → bit_of (replicate 16 255) ≡ 1
+  bit_ones low = ap (λ (n : ℕ). bit_at n t) (get_or-replicate 16 j 255 0 lt) ∙ bit_at_ones 8 t low
 
   pub bit_sum : (a b : List ℕ) → length a ≡ 16 → length b ≡ 16 → bit_of (zip2 bit_xor a b) ≡ (bit_of a + bit_of b) % 2
   bit_sum a b la lb =

@@ -4,6 +4,7 @@ pub mod Schedule
 pub mod ByteBits
 pub mod StaysBytes
 pub mod Unmixing
+pub mod InverseOnPlanes
 pub mod Deciphering
 pub mod RoundSteps
 pub mod Vectors

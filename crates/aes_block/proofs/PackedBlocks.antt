@@ -14,7 +14,7 @@ use Rattle.aes_block.proofs.Schedule.{cells_whole}
 abbrev pub IsTransposed : List (List ℕ) → List (List ℕ) → Type 0
 IsTransposed x r = (i j : ℕ) → i < 8 → j < 16 → lane r i j ≡ byte_at x i j
 
-same_block : (f g : ℕ → ℕ) → ((j : ℕ) → j < 16 → f j ≡ g j) → state_of (λ r c. f (r + 4 * c)) ≡ state_of (λ r c. g (r + 4 * c))
+pub same_block : (f g : ℕ → ℕ) → ((j : ℕ) → j < 16 → f j ≡ g j) → state_of (λ r c. f (r + 4 * c)) ≡ state_of (λ r c. g (r + 4 * c))
 same_block f g h =
     λ i.
     h 0 (omega arith) i ∷ h 1 (omega arith) i ∷ h 2 (omega arith) i ∷ h 3 (omega arith) i

@@ -1,5 +1,5 @@
 -- The other steps on planes, a byte at a time.
-use Rattle.std.proofs.Common.{◌≡◌, ℕ, ◌+◌, ◌%◌, ◌<◌, List, [], ◌∷◌, slice_index, refl, sym, ap, ◌∙◌, arith, bit_xor}
+use Rattle.std.proofs.Common.{◌≡◌, ℕ, ◌+◌, ◌*◌, ◌%◌, ◌<◌, List, [], ◌∷◌, slice_index, refl, sym, ap, ◌∙◌, arith, bit_xor}
 use Rattle.std.specs.Prelude.{slice_index_or}
 use Rattle.std.specs.Int.{bit_at}
 use lib.Lanes.{zip2}
@@ -11,10 +11,12 @@ use Rattle.aes_block.specs.Circuit.{bits_layer, layer, run}
 use Rattle.aes_block.specs.Field.{field_times, polynomial_times, remainder}
 use Rattle.aes_block.specs.Planes.{ArePlanes, block_in, byte_at, double_gates, double_outs, lane, next_row_places}
 use Rattle.aes_block.specs.SBox.{from_bits_of}
+use Rattle.aes_block.specs.State.{IsBytes}
 use Rattle.aes_block.proofs.AllBytes.{below_all, times_one, triple_is, values}
 use Rattle.aes_block.proofs.ByteBits.{bits_back, byte_from, from_bits_lt, number}
 use Rattle.aes_block.proofs.Circuit.{bit_sum}
 use Rattle.aes_block.proofs.FieldLaws.{field_times-add}
+use Rattle.aes_block.proofs.StaysBytes.{state_bytes}
 use Rattle.aes_block.proofs.Lanes.{eight, eight_at, eight_planes, length-op}
 use Rattle.std.specs.Int.Bits.{xor_assoc}
 
@@ -25,6 +27,9 @@ double-all = refl
 
 byte_lt : (x : List (List ℕ)) (t j : ℕ) → byte_at x t j < 256
 byte_lt x t j = from_bits_lt (λ i. bit_at (lane x i j) t) 8 (λ i. bit_at-lt (lane x i j) t)
+
+pub block_bytes : (x : List (List ℕ)) (t : ℕ) → IsBytes (block_in x t)
+block_bytes x t = state_bytes (λ r c. byte_at x t (r + 4 * c)) (λ r c. byte_lt x t (r + 4 * c))
 
 -- the sum of planes, plane by plane
 abbrev xor_at : List (List ℕ) → List (List ℕ) → ℕ → List ℕ

@@ -2,8 +2,6 @@
 use Rattle.std.proofs.Common.{◌≡◌, ℕ, ◌<◌, List, [], ◌∷◌, ◌++◌, map, replicate, slice_index, refl, ap, ◌∙◌, arith}
 use Rattle.std.specs.Prelude.{slice_index_or}
 use Rattle.std.specs.Int.{bit_at}
-use Rattle.std.proofs.lemmas.Nat.Bits.{bit_at_ones}
-use Rattle.std.proofs.lemmas.Simd.{get_or-replicate}
 use Rattle.aes_block.specs.BitMatrix.{bits}
 use Rattle.aes_block.specs.Circuit.{bits_layer, lanes_layer, layer, run, wires}
 use Rattle.aes_block.specs.Field.{field_times, inverse, inverse_below, polynomial_times, remainder}
@@ -12,7 +10,7 @@ use Rattle.aes_block.specs.SBox.{from_bits_of, s_box}
 use Rattle.aes_block.specs.SBoxCircuit.{bot_gates, bot_outs, from_inv, from_top, inv_gates, inv_outs, lin_gates, lin_outs, mid_gates, mid_outs, s_box_circuit, top_gates, top_outs}
 use Rattle.aes_block.proofs.AllBytes.{values}
 use Rattle.aes_block.proofs.ByteBits.{number}
-use Rattle.aes_block.proofs.Circuit.{Wide, append_wide, bits_out, byte_of-circuit, cons_wide, planes_wide, wide_out, wide_planes}
+use Rattle.aes_block.proofs.Circuit.{Wide, append_wide, bit_ones, bits_out, byte_of-circuit, cons_wide, planes_wide, wide_out, wide_planes}
 
 -- the circuit on the bits of each byte
 s_box_circuit-all : values (λ b. number (s_box_circuit (bits b))) ≡ values s_box
@@ -58,7 +56,7 @@ module _ (x y m t z r : List (List ℕ)) (ls : Layers x y m t z r) (planes : Are
   circuit_bits j k lt low =
       let b : List ℕ → ℕ = λ v. bit_at (slice_index v j) k in
       let of_y = map b (wires 21 y) in
-      let one : b ones ≡ 1 = ap (λ (n : ℕ). bit_at n k) (get_or-replicate 16 j 255 0 lt) ∙ bit_at_ones 8 k low in
+      let one : b ones ≡ 1 = bit_ones j k lt low in
       bits_out j k lt lin_gates lin_outs (ones ∷ wires 18 z) r ls.lin wide_z
       ∙ (λ i. bits_layer lin_gates lin_outs (one i ∷ bits_out j k lt bot_gates bot_outs (wires 9 t ++ x7 ∷ wires 21 y) z ls.bot wide_t i))
       ∙ ap (from_inv (b x7) of_y) (bits_out j k lt inv_gates inv_outs (wires 4 m) t ls.inv wide_m)

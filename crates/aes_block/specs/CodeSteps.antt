@@ -1,12 +1,12 @@
 -- Words for what the code's steps compute, where the standard has none.
 use Rattle.std.specs.Prelude.{ℕ, List, [], ◌∷◌, slice_index}
-use Rattle.aes_block.specs.Field.{field_times}
-use Rattle.aes_block.specs.State.{cell, column_of}
+use Rattle.aes_block.specs.SBox.{inv_affine}
+use Rattle.aes_block.specs.State.{cell, column_of, state_of}
 use Rattle.aes_block.specs.KeySchedule.{add_words, rot_word, sub_word}
 
--- the products of a byte with 0e, 0b, 0d and 09
-abbrev pub multiples : ℕ → List ℕ
-multiples b = field_times 0x0e b ∷ field_times 0x0b b ∷ field_times 0x0d b ∷ field_times 0x09 b ∷ []
+-- the inverse affine map at each byte
+abbrev pub inv_affine_bytes : List ℕ → List ℕ
+inv_affine_bytes s = state_of (λ r c. inv_affine (cell s r c))
 
 -- the block whose columns are four words
 abbrev pub block_of : List ℕ → List ℕ → List ℕ → List ℕ → List ℕ

@@ -23,6 +23,9 @@ abbrev pub inv_affine_bit : ℕ → ℕ → ℕ
 inv_affine_bit b i =
     (bit_at b ((i + 2) % 8) + bit_at b ((i + 5) % 8) + bit_at b ((i + 7) % 8) + bit_at 0x05 i) % 2
 
+abbrev pub inv_affine : ℕ → ℕ
+inv_affine b = from_bits_of (inv_affine_bit b) 8
+
 -- the inverse at the inverse affine map
 unfoldable pub inv_s_box : ℕ → ℕ
-inv_s_box b = inverse (from_bits_of (inv_affine_bit b) 8)
+inv_s_box b = inverse (inv_affine b)

@@ -68,3 +68,12 @@ from_top x7 y = from_inv x7 y (bits_layer inv_gates inv_outs (bits_layer mid_gat
 -- the whole circuit on eight bits
 abbrev pub s_box_circuit : List ℕ → List ℕ
 s_box_circuit x = from_top (slice_index x 0) (bits_layer top_gates top_outs x)
+
+-- the inverse affine map: a one and bits 0 to 7 in, bits 0 to 7 out, of which 0 and 2 are negated
+abbrev pub inv_affine_gates : List Gate
+inv_affine_gates =
+    Sum 1 4 ∷ Sum 4 7 ∷ Sum 7 10 ∷ Sum 10 5 ∷ Sum 2 12 ∷ Sum 0 5 ∷ Sum 5 13 ∷ Sum 4 9
+    ∷ Sum 0 8 ∷ Sum 7 10 ∷ Sum 6 14 ∷ Sum 8 14 ∷ Sum 11 18 ∷ Sum 9 18 ∷ []
+
+abbrev pub inv_affine_outs : List ℕ
+inv_affine_outs = 8 ∷ 7 ∷ 5 ∷ 4 ∷ 3 ∷ 2 ∷ 1 ∷ 0 ∷ []

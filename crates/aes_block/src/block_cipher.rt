@@ -3,13 +3,12 @@ ghost use Rattle.aes_block.specs.Cipher.{cipher};
 ghost use Rattle.aes_block.specs.InverseCipher.{inv_cipher};
 ghost use Rattle.aes_block.specs.State.{IsBytes};
 
-use crate::inverse_steps::{inv_mix_columns, inv_shift_rows, inv_sub_bytes};
+use crate::inverse_planes::{inv_mix_planes, inv_shift_planes, inv_sub_planes};
 use crate::key_schedule::{ROUND_CONSTANTS, next_round_key};
 use crate::plane_steps::{add_key, mix_planes, shift_planes};
 use crate::planes::{pack, unpack};
 use crate::round_key::RoundKey;
 use crate::s_box_planes::sub_planes;
-use crate::steps::{add_round_key, mix_columns, shift_rows, sub_bytes};
 use std::marker::Model;
 
 /// AES-128 (FIPS 197) under one key, which is expanded once, to the keys of its eleven rounds (5.2).
@@ -38,41 +37,34 @@ impl Aes128 {
     {
         let mut keys = [RoundKey::new(key); 11];
         'expand: for n in 0..10 {
-            keys[n + 1] = RoundKey::new(&next_round_key(&keys[n].block, ROUND_CONSTANTS[n]));
+            keys[n + 1] = RoundKey::new(&next_round_key(&keys[n], ROUND_CONSTANTS[n]));
         }
         Aes128 { keys }
     }
 
-    /// Enciphers `block` in place (FIPS 197, 5.1), by tables.
+    /// Enciphers `block` in place (FIPS 197, 5.1), with no table and no branch, as one of eight blocks.
     pub fn encrypt(&self, block: &mut [u8; 16])
         ensures { block.new ≡ cipher self.now block.old }
     {
-        let mut s = add_round_key(block, &self.keys[0].block);
-        'rounds: for n in 0..9 {
-            s = add_round_key(
-                &mix_columns(&shift_rows(&sub_bytes(&s))),
-                &self.keys[n + 1].block,
-            );
-        }
-        *block = add_round_key(&shift_rows(&sub_bytes(&s)), &self.keys[10].block);
+        let mut blocks = [[0; 16]; 8];
+        blocks[0] = *block;
+        self.encrypt_eight(&mut blocks);
+        *block = blocks[0];
     }
 
-    /// Deciphers `block` in place (FIPS 197, 5.3), by tables. Of a block that `encrypt` made under the same key, this is the block that `encrypt` was given.
+    /// Deciphers `block` in place (FIPS 197, 5.3), with no table and no branch. Of a block that `encrypt` made under the same
+    /// key, this is the block that `encrypt` was given.
     pub fn decrypt(&self, block: &mut [u8; 16])
         ensures value { block.new ≡ inv_cipher self.now block.old }
         ensures undoes { (b : List ℕ) → IsBytes b → length b ≡ 16 → block.old ≡ cipher self.now b → block.new ≡ b }
     {
-        let mut s = add_round_key(block, &self.keys[10].block);
-        'inv_rounds: for n in 0..9 {
-            s = inv_mix_columns(&add_round_key(
-                &inv_sub_bytes(&inv_shift_rows(&s)),
-                &self.keys[9 - n].block,
-            ));
-        }
-        *block = add_round_key(&inv_sub_bytes(&inv_shift_rows(&s)), &self.keys[0].block);
+        let mut blocks = [[0; 16]; 8];
+        blocks[0] = *block;
+        self.decrypt_eight(&mut blocks);
+        *block = blocks[0];
     }
 
-    /// Enciphers each of the eight blocks in place, as `encrypt` does, but all at once in vectors, and with no table.
+    /// Enciphers each of the eight blocks in place, as `encrypt` does, all at once in vectors.
     pub fn encrypt_eight(&self, blocks: &mut [[u8; 16]; 8])
         ensures { (t : ℕ) → t < 8 → slice_index_or blocks.new t [] ≡ cipher self.now (slice_index_or blocks.old t []) }
     {
@@ -85,5 +77,21 @@ impl Aes128 {
             x = next;
         }
         *blocks = unpack(add_key(shift_planes(sub_planes(x)), &self.keys[10].planes));
+    }
+
+    // Deciphers each of the eight blocks in place.
+    fn decrypt_eight(&self, blocks: &mut [[u8; 16]; 8])
+        ensures value { (t : ℕ) → t < 8 → slice_index_or blocks.new t [] ≡ inv_cipher self.now (slice_index_or blocks.old t []) }
+        ensures undoes { (t : ℕ) (b : List ℕ) → t < 8 → IsBytes b → length b ≡ 16 → slice_index_or blocks.old t [] ≡ cipher self.now b → slice_index_or blocks.new t [] ≡ b }
+    {
+        let mut x = add_key(pack(blocks), &self.keys[10].planes);
+        'inv_rounds: for n in 0..9 {
+            let next = inv_mix_planes(add_key(
+                inv_sub_planes(inv_shift_planes(x)),
+                &self.keys[9 - n].planes,
+            ));
+            x = next;
+        }
+        *blocks = unpack(add_key(inv_sub_planes(inv_shift_planes(x)), &self.keys[0].planes));
     }
 }

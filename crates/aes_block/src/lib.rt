@@ -3,8 +3,7 @@
 #![tactic(auto)]
 
 mod block_cipher;
-mod bytes;
-mod inverse_steps;
+mod inverse_planes;
 mod key_schedule;
 mod key_wrap;
 mod laws;
@@ -12,8 +11,6 @@ mod plane_steps;
 mod planes;
 mod round_key;
 mod s_box_planes;
-mod steps;
-mod tables;
 mod transpose;
 
 pub use block_cipher::Aes128;
