@@ -42,7 +42,7 @@ impl Aes128 {
         Aes128 { keys }
     }
 
-    /// Enciphers `block` in place (FIPS 197, 5.1), with no table and no branch, as one of eight blocks.
+    /// Enciphers `block` in place (FIPS 197, 5.1), with no table: it is the first of eight blocks.
     pub fn encrypt(&self, block: &mut [u8; 16])
         ensures { block.new ≡ cipher self.now block.old }
     {
@@ -52,8 +52,8 @@ impl Aes128 {
         *block = blocks[0];
     }
 
-    /// Deciphers `block` in place (FIPS 197, 5.3), with no table and no branch. Of a block that `encrypt` made under the same
-    /// key, this is the block that `encrypt` was given.
+    /// Deciphers `block` in place (FIPS 197, 5.3), with no table. Of a block that `encrypt` made
+    /// under the same key, this is the block that `encrypt` was given.
     pub fn decrypt(&self, block: &mut [u8; 16])
         ensures value { block.new ≡ inv_cipher self.now block.old }
         ensures undoes { (b : List ℕ) → IsBytes b → length b ≡ 16 → block.old ≡ cipher self.now b → block.new ≡ b }
@@ -64,7 +64,8 @@ impl Aes128 {
         *block = blocks[0];
     }
 
-    /// Enciphers each of the eight blocks in place, as `encrypt` does, all at once in vectors.
+    /// Enciphers each of the eight blocks in place, as `encrypt` does, but all at once in vectors,
+    /// and with no table.
     pub fn encrypt_eight(&self, blocks: &mut [[u8; 16]; 8])
         ensures { (t : ℕ) → t < 8 → slice_index_or blocks.new t [] ≡ cipher self.now (slice_index_or blocks.old t []) }
     {

@@ -23,7 +23,7 @@ fn add_words(u: [u8; 4], v: [u8; 4]) -> [u8; 4]
     [u0 ^ v0, u1 ^ v1, u2 ^ v2, u3 ^ v3]
 }
 
-// SubWord of RotWord of the last word of the round key `k`: of all its bytes' substitutions, four.
+// SubWord of RotWord of the last word of the round key `k`, from SubBytes of its planes.
 #[inline(always)]
 fn sub_turned(k: &RoundKey) -> [u8; 4]
     requires wide { ArePlanes k.now.planes }

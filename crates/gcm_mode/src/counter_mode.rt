@@ -56,7 +56,7 @@ fn xor_last(part: &mut [u8], streams: &[[u8; 16]; 8])
     }
 }
 
-// GCTR of the last part of the text. Eight blocks at once take less time than `encrypt` takes for one.
+// GCTR of the last part of the text. Eight blocks at once take no more time than one does.
 fn apply_last(key: &Aes128, first: &[u8; 16], text: &mut [u8])
     requires { length text.old < 128 }
     ensures { text.new ≡ gctr (cipher key.now) first.now text.old }
