@@ -2,6 +2,10 @@ pub mod Sums
 pub mod Algebra
 pub mod Division
 pub mod Product
+pub mod ProductLaws
+pub mod Holes
+pub mod WordParts
+pub mod TwoLanes
 pub mod Reflected
 pub mod FieldLaws
 pub mod BitSteps

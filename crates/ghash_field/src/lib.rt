@@ -14,6 +14,7 @@ ghost use Rattle.ghash_field.specs.Table.{block_step};
 
 use table::{Table, fill_table, mul_by_table};
 
+mod carryless;
 mod table;
 
 // R of section 6.3: 1110 0001, then 120 zero bits. It stands for x^128.
