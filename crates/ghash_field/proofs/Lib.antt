@@ -9,5 +9,8 @@ pub mod TwoLanes
 pub mod Reflected
 pub mod FieldLaws
 pub mod BitSteps
-pub mod Rows
+pub mod BlockSteps
+pub mod Halves
+pub mod Folding
+pub mod Shifts
 pub mod Evidence

@@ -2,5 +2,6 @@ pub mod Polynomial
 pub mod Field
 pub mod Ghash
 pub mod Holes
-pub mod Table
+pub mod Steps
+pub mod Words
 pub mod Hasher
