@@ -1,13 +1,13 @@
 -- The product bit by bit, from the first block's left.
 use Rattle.std.proofs.Common.{◌≡◌, ℕ, suc, ◌+◌, ◌-◌, ◌*◌, ◌^◌, ◌<◌, bit_xor, refl, sym, ap, ◌∙◌, arith}
 use Rattle.std.specs.Int.{bit_at}
-use Rattle.std.specs.Int.Bits.{xor_zero_r}
-use Rattle.ghash_field.specs.Table.{block_step}
+use Rattle.std.proofs.lemmas.Nat.Bits.{bit_at-lt}
+use Rattle.ghash_field.specs.Steps.{block_step}
 use Rattle.ghash_field.specs.Field.{reflected, block_product}
 use Rattle.ghash_field.proofs.Algebra.{power_of, times_below}
 use Rattle.ghash_field.proofs.Division.{times_x}
 use Rattle.ghash_field.proofs.Reflected.{reflected-linear, reflected-product, product-lt, reflected-step, bit_at-reflected, same_from_reflected}
-use Rattle.ghash_field.proofs.Sums.{xor_below, linear-zero}
+use Rattle.ghash_field.proofs.Sums.{xor_below, linear-zero, linear-pick}
 
 -- s is the product of b and a's leftmost i bits
 abbrev pub IsProductBelow : ℕ → ℕ → ℕ → ℕ → Type 0
@@ -17,25 +17,16 @@ IsProductBelow a b s i = reflected s ≡ times_below times_x i (reflected a) (re
 abbrev pub IsShifted : ℕ → ℕ → ℕ → Type 0
 IsShifted b v i = reflected v ≡ power_of times_x i (reflected b)
 
--- one more of a's bits, which is set
-pub step-set : (a b s v i : ℕ) → i < 128 → bit_at a (127 - i) ≡ 1 → IsProductBelow a b s i → IsShifted b v i → IsProductBelow a b (bit_xor s v) (i + 1)
+-- one more of a's bits
+pub step-bit : (a b s v i : ℕ) → i < 128 → IsProductBelow a b s i → IsShifted b v i → IsProductBelow a b (bit_xor s (bit_at a (127 - i) * v)) (i + 1)
 unfolding times_below xor_below
-step-set a b s v i lt bit sum shifted =
+step-bit a b s v i lt sum shifted =
     let e : suc i ≡ i + 1 = omega arith in
-    let one : bit_at (reflected a) i ≡ 1 = bit_at-reflected a i lt ∙ bit in
-    let p : ℕ = power_of times_x i (reflected b) in
-    let times : bit_at (reflected a) i * p ≡ p = ap (λ t. t * p) one ∙ omega arith in
-    reflected-linear s v ∙ (λ j. bit_xor (sum j) ((shifted ∙ sym times) j)) ∙ ap (λ n. times_below times_x n (reflected a) (reflected b)) e
-
--- one more of a's bits, which is clear
-pub step-clear : (a b s i : ℕ) → i < 128 → bit_at a (127 - i) ≡ 0 → IsProductBelow a b s i → IsProductBelow a b s (i + 1)
-unfolding times_below xor_below
-step-clear a b s i lt bit sum =
-    let e : suc i ≡ i + 1 = omega arith in
-    let none : bit_at (reflected a) i ≡ 0 = bit_at-reflected a i lt ∙ bit in
-    let p : ℕ = power_of times_x i (reflected b) in
-    let times : bit_at (reflected a) i * p ≡ 0 = ap (λ t. t * p) none ∙ omega arith in
-    sum ∙ sym (xor_zero_r _) ∙ ap (bit_xor (times_below times_x i (reflected a) (reflected b))) (sym times)
+    let t : ℕ = bit_at a (127 - i) in
+    let bit : bit_at (reflected a) i ≡ t = bit_at-reflected a i lt in
+    reflected-linear s (t * v)
+    ∙ (λ j. bit_xor (sum j) (linear-pick reflected reflected-linear t v (bit_at-lt a (127 - i)) j))
+    ∙ (λ j. bit_xor (times_below times_x i (reflected a) (reflected b)) (sym bit j * shifted j))
     ∙ ap (λ n. times_below times_x n (reflected a) (reflected b)) e
 
 -- one more step of the multiple

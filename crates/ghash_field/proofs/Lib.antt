@@ -2,8 +2,15 @@ pub mod Sums
 pub mod Algebra
 pub mod Division
 pub mod Product
+pub mod ProductLaws
+pub mod Holes
+pub mod WordParts
+pub mod TwoLanes
 pub mod Reflected
 pub mod FieldLaws
 pub mod BitSteps
-pub mod Rows
+pub mod BlockSteps
+pub mod Halves
+pub mod Folding
+pub mod Shifts
 pub mod Evidence

@@ -71,19 +71,19 @@ sum_below-stable f m (suc d) h =
     ap (sum_below f) e ∙ omega (arith, none, fold)
 
 -- the bits of a multiple by a power of x
-bit_at-shifted : (q i k : ℕ) → i ≤ k → bit_at (q * 2 ^ i) k ≡ bit_at q (k - i)
+pub bit_at-shifted : (q i k : ℕ) → i ≤ k → bit_at (q * 2 ^ i) k ≡ bit_at q (k - i)
 bit_at-shifted q i k le =
     let e : q * 2 ^ i ≡ q * 2 ^ i + 0 = omega arith in
     ap (λ y. bit_at y k) e ∙ bit_at_cat_high q i 0 k (pow_pos i) le
 
 -- a multiple by x ^ i has no term below x ^ i
-bit_at-shifted_low : (q i k : ℕ) → k < i → bit_at (q * 2 ^ i) k ≡ 0
+pub bit_at-shifted_low : (q i k : ℕ) → k < i → bit_at (q * 2 ^ i) k ≡ 0
 bit_at-shifted_low q i k lt =
     let e : q * 2 ^ i ≡ q * 2 ^ i + 0 = omega arith in
     ap (λ y. bit_at y k) e ∙ bit_at_cat_low q i 0 k lt ∙ bit_at-zero k
 
 -- the bit of a choice of m or 0
-bit_at-pick : (t m k : ℕ) → t < 2 → bit_at (t * m) k ≡ t * bit_at m k
+pub bit_at-pick : (t m k : ℕ) → t < 2 → bit_at (t * m) k ≡ t * bit_at m k
 bit_at-pick zero m k h = let e : 0 * m ≡ 0 = omega arith in ap (λ y. bit_at y k) e ∙ bit_at-zero k ∙ omega arith
 bit_at-pick (suc zero) m k h = let e : 1 * m ≡ m = omega arith in ap (λ y. bit_at y k) e ∙ omega arith
 bit_at-pick (suc (suc t)) m k h = absurd (omega arith)

@@ -1,5 +1,7 @@
 pub mod Polynomial
 pub mod Field
 pub mod Ghash
-pub mod Table
+pub mod Holes
+pub mod Steps
+pub mod Words
 pub mod Hasher

@@ -10,11 +10,15 @@ ghost use Rattle.std.specs.Int.{w128, from_be_bytes, to_be_bytes};
 ghost use Rattle.ghash_field.specs.Field.{block_product};
 ghost use Rattle.ghash_field.specs.Ghash.{ghash};
 ghost use Rattle.ghash_field.specs.Hasher.{Holds};
-ghost use Rattle.ghash_field.specs.Table.{block_step};
+ghost use Rattle.ghash_field.specs.Words.{words_of};
+ghost use Rattle.ghash_field.specs.Steps.{block_step};
 
-use table::{Table, fill_table, mul_by_table};
+use reduction::block_of;
+use words::{Words, add_products, whole_of, words_of};
 
-mod table;
+mod carryless;
+mod reduction;
+mod words;
 
 // R of section 6.3: 1110 0001, then 120 zero bits. It stands for x^128.
 const REDUCTION: u128 = 0xe1 << 120;
@@ -23,12 +27,7 @@ const REDUCTION: u128 = 0xe1 << 120;
 fn times_x(block: u128) -> u128
     ensures { result ≡ block_step block }
 {
-    let shifted = block >> 1;
-    if block & 1 == 1 {
-        shifted ^ REDUCTION
-    } else {
-        shifted
-    }
+    (block >> 1) ^ (block & 1) * REDUCTION
 }
 
 /// The product a • b of two blocks (section 6.3), bit by bit.
@@ -38,9 +37,7 @@ pub fn mul(a: u128, b: u128) -> u128
     let mut sum = 0;
     let mut multiple = b;
     for i in 0..128u32 {
-        if (a >> (127 - i)) & 1 == 1 {
-            sum ^= multiple;
-        }
+        sum ^= ((a >> (127 - i)) & 1) * multiple;
         multiple = times_x(multiple);
     }
     sum
@@ -63,10 +60,20 @@ pub fn ghash_steps()
     ensures next { (h x : ℕ) (xs : List ℕ) → h < 2 ^ 128 → ghash h (xs ++ x ∷ []) ≡ block_product (bit_xor (ghash h xs) x) h }
 {}
 
+// The product of a block and of one whose words are given.
+fn times(a: u128, words: &Words) -> u128
+    ensures { (h : ℕ) → h < 2 ^ 128 → words.now ≡ words_of h → result ≡ block_product a h }
+{
+    let mut sums = [0; 10];
+    add_products(&mut sums, &words_of(a), words);
+    let (high, low) = whole_of(&sums);
+    block_of(high, low)
+}
+
 /// GHASH of a run of blocks under one hash subkey, block by block.
 #[derive(Drop)]
 pub struct Ghash {
-    table: Table,
+    subkey: Words,
     sum: u128,
 }
 
@@ -80,25 +87,25 @@ impl Ghash {
         hash
     }
 
-    /// A hasher of no block, under the hash subkey 0. Its table is all zeros, and takes no work.
+    /// A hasher of no block, under the hash subkey 0. It takes no work.
     pub fn of_zero() -> Ghash
         ensures { Holds result 0 [] }
     {
         Ghash {
-            table: [[0; 16]; 32],
+            subkey: [0; 10],
             sum: 0,
         }
     }
 
-    /// Begins with no block, under the hash subkey `h`: its table is made where the one before stands.
+    /// Begins with no block, under the hash subkey `h`.
     pub fn begin(&mut self, h: u128)
         ensures { Holds self.new h [] }
     {
-        fill_table(&mut self.table, h);
+        self.subkey = words_of(h);
         self.sum = 0;
     }
 
-    /// Begins again with no block, under the same hash subkey, and makes no new table.
+    /// Begins again with no block, under the same hash subkey.
     pub fn restart(&mut self)
         ensures { (h : ℕ) (xs : List ℕ) → Holds self.old h xs → Holds self.new h [] }
     {
@@ -109,7 +116,7 @@ impl Ghash {
     pub fn update(&mut self, block: &[u8; 16])
         ensures { (h : ℕ) (xs : List ℕ) → Holds self.old h xs → Holds self.new h (xs ++ from_be_bytes w128 block.now ∷ []) }
     {
-        self.sum = mul_by_table(self.sum ^ u128::from_be_bytes(*block), &self.table);
+        self.sum = times(self.sum ^ u128::from_be_bytes(*block), &self.subkey);
     }
 
     /// GHASH of the blocks taken in so far, as a block.

@@ -1,20 +1,16 @@
-use Rattle.std.proofs.Common.{◌≡◌, ◌+◌, ◌-◌, sym, ◌∙◌, subst, arith}
-use Rattle.std.proofs.lemmas.Nat.Bits.{bit_at-lt, shr_and_one}
-use Rattle.ghash_field.proofs.BitSteps.{IsProductBelow, IsShifted, step-set, step-clear, shift-more, product-all, product-none, shift-none}
+use Rattle.std.proofs.Common.{◌≡◌, ◌+◌, ◌-◌, ◌*◌, bit_xor, sym, ap, subst, arith}
+use Rattle.std.proofs.lemmas.Nat.Bits.{shr_and_one}
+use Rattle.ghash_field.proofs.BitSteps.{IsProductBelow, IsShifted, step-bit, shift-more, product-all, product-none, shift-none}
 use Rattle.ghash_field.proofs.mul.Goals as goal
-use Rattle.ghash_field.proofs.mul.Goals.{then-a-i-eq1, else-a-i-eq1}
 
 pub loop-i-init : goal.loop-i-init
 loop-i-init c = record { product = product-none c.args.a c.args.b; multiple = shift-none c.args.b }
 
 pub loop-i-preserved : goal.loop-i-preserved
 loop-i-preserved c = record {
-  product = elim c.if-a-i-eq1.branch [
-    | then-a-i-eq1 w ↦ subst (λ s. IsProductBelow c.args.a c.args.b s (c.loop-i.i + 1)) (sym w.sum-is)
-        (step-set _ _ _ _ c.loop-i.i (omega arith) (sym (shr_and_one _ _) ∙ w.if-a-i-eq1.true) c.loop-i.invariant.product c.loop-i.invariant.multiple)
-    | else-a-i-eq1 w ↦ subst (λ s. IsProductBelow c.args.a c.args.b s (c.loop-i.i + 1)) (sym w.sum-is)
-        (step-clear _ _ _ c.loop-i.i (omega arith) (omega (arith, w.if-a-i-eq1.false, shr_and_one c.args.a (127 - c.loop-i.i), bit_at-lt c.args.a (127 - c.loop-i.i))) c.loop-i.invariant.product)
-  ];
+  product = subst (λ s. IsProductBelow c.args.a c.args.b s (c.loop-i.i + 1))
+      (sym (ap (λ t. bit_xor c.loop-i.sum (t * c.loop-i.multiple)) (shr_and_one c.args.a (127 - c.loop-i.i))))
+      (step-bit _ _ _ _ c.loop-i.i (omega arith) c.loop-i.invariant.product c.loop-i.invariant.multiple);
   multiple = subst (λ m. IsShifted c.args.b m (c.loop-i.i + 1)) (sym c.times_x-multiple.ensures)
       (shift-more c.args.b c.loop-i.multiple c.loop-i.i c.loop-i.auto.multiple-fits.fits c.loop-i.invariant.multiple);
 }

@@ -5,4 +5,4 @@ use Rattle.ghash_field.proofs.Ghash.begin.Goals as goal
 
 pub returns : goal.returns
 unfolding Holds ghash
-returns c = (c.ranges.h.fits, c.fill_table.ensures, refl)
+returns c = (c.ranges.h.fits, c.words_of-self.ensures, refl)

@@ -9,7 +9,7 @@ unfolding Holds
 returns c = λ h xs held. (
   held.0,
   held.1,
-  c.mul_by_table-self.ensures h held.1
+  c.times-self.ensures h held.0 held.1
       ∙ (λ i. block_product (bit_xor (held.2 i) (c.from_be_bytes.ensures i)) h)
       ∙ sym (ghash-more h _ xs held.0),
 )

@@ -1,0 +1,20 @@
+use Rattle.std.proofs.Common.{◌≡◌, ℕ, ◌/◌, ◌%◌, ◌^◌, bit_xor, ap, ◌∙◌, replicate, refl}
+use Rattle.std.specs.Int.Bits.{xor_zero_l}
+use Rattle.ghash_field.specs.Words.{joined, whole_of}
+use Rattle.ghash_field.specs.Polynomial.{product}
+use Rattle.ghash_field.proofs.Folding.{folded-product, product-below, halves-folded}
+use Rattle.ghash_field.proofs.times.Goals as goal
+
+no_sums : whole_of (replicate 10 0) ≡ 0
+unfolding whole_of joined
+no_sums = refl
+
+pub returns : goal.returns
+returns c = λ h lt words.
+    let a : ℕ = c.args.a in
+    let p : ℕ = product a h in
+    let whole : whole_of c.add_products.new.sums ≡ p =
+    c.add_products.ensures a h c.ranges.a.fits lt c.words_of.ensures words ∙ ap (λ z. bit_xor z p) no_sums ∙ xor_zero_l p in
+    halves-folded p c.whole_of-high.result.0 c.whole_of-high.result.1 c.block_of.result (product-below a h)
+    (c.whole_of-high.ensures.high ∙ ap (λ z. z / 2 ^ 128) whole) (c.whole_of-high.ensures.low ∙ ap (λ z. z % 2 ^ 128) whole) c.block_of.ensures
+    ∙ folded-product a h c.ranges.a.fits lt
