@@ -1,8 +1,11 @@
-//! Fields of fixed width among bytes: a row of bytes is cut into its fields, and put together from them.
+//! Fields of fixed width among bytes: a row of bytes is cut into its fields, and put together from them. Secrets among
+//! bytes: they are overwritten where they lie.
 #![tactic(auto)]
 
-ghost use Rattle.std.specs.Prelude.{◌≡◌, ◌≤◌, ◌+◌, length};
+ghost use Rattle.std.specs.Prelude.{◌≡◌, ◌≤◌, ◌+◌, length, replicate};
 ghost use Rattle.byte_fields.specs.Field.{field, with_field};
+
+use std::hint::spin_loop;
 
 /// The field of N bytes at the offset.
 pub fn field<const N: usize>(bytes: &[u8], offset: usize) -> [u8; N]
@@ -20,4 +23,17 @@ pub fn put(bytes: &mut [u8], offset: usize, field: &[u8])
     ensures { bytes.new ≡ with_field offset field.now bytes.old }
 {
     bytes[offset..offset + field.len()].copy_from_slice(field);
+}
+
+/// Overwrites secrets with zero bytes, where they lie. Call it before the place is let go: a value that is moved, into `drop`
+/// too, is a copy, and the bytes at its old place stay.
+///
+/// No clause can say that the machine is told to store them. It is: the function stays out of line, and the processor's
+/// pause in it is an effect to the compiler, so neither a call nor the stores of its body are left out.
+#[inline(never)]
+pub fn wipe(secrets: &mut [u8])
+    ensures { secrets.new ≡ replicate (length secrets.old) 0 }
+{
+    secrets.fill(0);
+    spin_loop();
 }

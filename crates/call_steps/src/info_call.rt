@@ -6,7 +6,7 @@ ghost use Rattle.disk_model.specs.Calls.{Rests};
 ghost use Rattle.disk_model.specs.State.{FileState};
 ghost use Rattle.node_image.specs.References.{current_format};
 ghost use Rattle.dir_records.specs.Form.{HasForm};
-ghost use Rattle.crash_core.specs.DeviceKeys.{object_key};
+ghost use Rattle.hmac_keys.specs.KeyTable.{ssk};
 ghost use Rattle.history_seats.specs.Records.{Version};
 ghost use Rattle.call_rules.specs.Objects.{IsOpenObject};
 ghost use Rattle.object_slots.specs.Fills.{GivesEntry};
@@ -26,6 +26,7 @@ use crate::slot_catch_up::catch_up_entry;
 use call_rules::OpenObject;
 use commit_gate::{GuardedGate, PlacedReply, Session};
 use core_laws::StoreName;
+use hmac_keys::SecretKey;
 use dir_records::DirEntry;
 use object_slots::{GuardedSlot, Slot};
 use rpmb_card::RpmbPort;
@@ -72,7 +73,7 @@ pub fn describe_live<F: StoreFile + Drop, L: StoreName>(
 }
 
 /// Loads the object of an entry, at which the slot stands, where nothing is loaded, and tells what is known of it, by a handle on it.
-/// `tsk` is the key of the entry's application. The gate has no part in this.
+/// `storage_key` is the key that the applications' keys come from. The gate has no part in this.
 ///
 /// # Errors
 ///
@@ -81,14 +82,14 @@ pub fn describe_object<F: StoreFile + Drop, L: StoreName>(
     alloc: Global,
     slot: &mut Slot<F>,
     entry: &DirEntry,
-    tsk: &[u8; 32],
+    storage_key: &SecretKey,
     handle: Handle,
 ) -> Result<Reply, NoMemory>
     requires guarded { SlotInvariant L.store slot.old }
     requires form { HasForm entry.now }
     requires current { entry.now.format ≡ current_format }
     requires given { GivesEntry slot.old entry.now }
-    requires key { tsk.now ≡ object_key L.store.keys entry.now.app }
+    requires keyed { storage_key.now ≡ ssk L.store.keys.huk L.store.keys.chip }
     ensures same { slot.new ≡ record slot.old { file = slot.new.file; holds = slot.new.holds } }
     ensures guarded { SlotInvariant L.store slot.new }
     ensures rests { Rests slot.old.file slot.new.file }
@@ -96,7 +97,7 @@ pub fn describe_object<F: StoreFile + Drop, L: StoreName>(
     ensures passed { OnErr result (FilePassed slot.old.file slot.new.file) }
     ensures describes { (v : Version) → GivesVersion slot.old v → IfOk result (DescribesObject L.store slot.old.file slot.new v handle) }
 {
-    if let Some(reply) = load_or_reply::<F, L>(alloc, slot, entry, tsk)? {
+    if let Some(reply) = load_or_reply::<F, L>(alloc, slot, entry, storage_key)? {
         return Ok(reply);
     }
     describe::<F, L>(alloc, slot, handle)
@@ -134,7 +135,7 @@ pub fn answer_info<F: StoreFile + Drop, R: RpmbPort + Drop, L: StoreName, E: Ent
 }
 
 /// Tells the object's size and attributes, and the handle's position and flags. `found` is what the rules found of the handle, whose
-/// session was shown the history, and which stays as it is. `tsk` is the key of the entry's application.
+/// session was shown the history, and which stays as it is. `storage_key` is the key that the applications' keys come from.
 ///
 /// # Errors
 ///
@@ -145,7 +146,7 @@ pub fn info<F: StoreFile + Drop, R: RpmbPort + Drop, L: StoreName, E: Entropy>(
     slot: &mut GuardedSlot<F, L>,
     session: &mut Session<E>,
     found: &OpenObject,
-    tsk: &[u8; 32],
+    storage_key: &SecretKey,
     handle: u32,
 ) -> Result<PlacedReply, NoMemory>
     requires room { 1 ≤ gate.old.journal.spare }
@@ -154,7 +155,7 @@ pub fn info<F: StoreFile + Drop, R: RpmbPort + Drop, L: StoreName, E: Entropy>(
     requires calm { IsCalm L.store gate.old.journal.knows session.old }
     requires found { IsOpenObject gate.old.gate.dir.dir.entries session.old.state handle found.now }
     requires file { slot.old.number ≡ found.now.held.entry.file }
-    requires key { tsk.now ≡ object_key L.store.keys found.now.held.entry.app }
+    requires keyed { storage_key.now ≡ ssk L.store.keys.huk L.store.keys.chip }
     ensures served { IsServedOrNot L.store gate.old gate.new session.old session.new slot.old.number (Call.Info handle) result }
     ensures number { slot.new.number ≡ slot.old.number }
     ensures entropy { session.new.entropy ≡ session.old.entropy }
@@ -166,7 +167,7 @@ pub fn info<F: StoreFile + Drop, R: RpmbPort + Drop, L: StoreName, E: Entropy>(
     let object = found.handle;
     let entry = found.held.entry;
     catch_up_entry(gate, &mut slot.slot, session, &entry);
-    let reply = describe_object::<F, L>(alloc, &mut slot.slot, &entry, tsk, object)?;
+    let reply = describe_object::<F, L>(alloc, &mut slot.slot, &entry, storage_key, object)?;
     let told = copied(alloc, &reply)?;
     Ok(answer_info(gate, &mut slot.slot, session, found, handle, reply, told))
 }

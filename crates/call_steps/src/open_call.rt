@@ -4,7 +4,7 @@ ghost use Rattle.std.specs.Prelude.{◌≡◌, ◌≤◌, false, None, Some, IfO
 ghost use Rattle.htree_file.specs.Answers.{FilePassed};
 ghost use Rattle.disk_model.specs.Calls.{Rests};
 ghost use Rattle.disk_model.specs.State.{FileState};
-ghost use Rattle.crash_core.specs.DeviceKeys.{object_key};
+ghost use Rattle.hmac_keys.specs.KeyTable.{ssk};
 ghost use Rattle.call_rules.specs.Index.{named};
 ghost use Rattle.store_model.specs.Machine.{MachineState, has_all_handles};
 ghost use Rattle.call_rules.specs.EntryNames.{IsEntryNamed};
@@ -25,6 +25,7 @@ use crate::slot_catch_up::catch_up_entry;
 use call_rules::Held;
 use commit_gate::{GuardedGate, PlacedReply, Session};
 use core_laws::StoreName;
+use hmac_keys::SecretKey;
 use object_slots::{GuardedSlot, Slot};
 use rpmb_card::RpmbPort;
 use std::alloc::Global;
@@ -80,7 +81,7 @@ pub fn answer_open<F: StoreFile + Drop, R: RpmbPort + Drop, L: StoreName, E: Ent
 
 /// Gives the session a handle on the object of that identifier, at position 0 and with these flags, and tells its number. Where the object
 /// could not be loaded the session gets no handle. `held` is the entry that the rules found, for a session that was shown the history.
-/// `tsk` is the key of the entry's application.
+/// `storage_key` is the key that the applications' keys come from.
 ///
 /// # Errors
 ///
@@ -91,7 +92,7 @@ pub fn open<F: StoreFile + Drop, R: RpmbPort + Drop, L: StoreName, E: Entropy>(
     slot: &mut GuardedSlot<F, L>,
     session: &mut Session<E>,
     held: &Held,
-    tsk: &[u8; 32],
+    storage_key: &SecretKey,
     id: ObjectId,
     flags: Flags,
 ) -> Result<PlacedReply, NoMemory>
@@ -104,7 +105,7 @@ pub fn open<F: StoreFile + Drop, R: RpmbPort + Drop, L: StoreName, E: Entropy>(
     requires opens { (m : MachineState) → Matches gate.old.gate.dir.dir.entries gate.old.gate.open_handles session.old.state m session.old.number
         → IsOpened m session.old.number id flags held.now.entry.size }
     requires file { slot.old.number ≡ held.now.entry.file }
-    requires key { tsk.now ≡ object_key L.store.keys held.now.entry.app }
+    requires keyed { storage_key.now ≡ ssk L.store.keys.huk L.store.keys.chip }
     ensures served { IsServedOrNot L.store gate.old gate.new session.old session.new slot.old.number (Call.Open id flags) result }
     ensures number { slot.new.number ≡ slot.old.number }
     ensures entropy { session.new.entropy ≡ session.old.entropy }
@@ -116,6 +117,6 @@ pub fn open<F: StoreFile + Drop, R: RpmbPort + Drop, L: StoreName, E: Entropy>(
 {
     let entry = held.entry;
     catch_up_entry(gate, &mut slot.slot, session, &entry);
-    let unloaded = load_or_reply::<F, L>(alloc, &mut slot.slot, &entry, tsk)?;
+    let unloaded = load_or_reply::<F, L>(alloc, &mut slot.slot, &entry, storage_key)?;
     Ok(answer_open(gate, &mut slot.slot, session, held, id, flags, unloaded))
 }

@@ -7,7 +7,7 @@ ghost use Rattle.disk_model.specs.Calls.{Rests};
 ghost use Rattle.disk_model.specs.State.{FileState};
 ghost use Rattle.node_image.specs.References.{current_format};
 ghost use Rattle.dir_records.specs.Form.{HasForm};
-ghost use Rattle.crash_core.specs.DeviceKeys.{object_key};
+ghost use Rattle.hmac_keys.specs.KeyTable.{ssk};
 ghost use Rattle.history_seats.specs.Records.{Version};
 ghost use Rattle.store_model.specs.Machine.{handle_at};
 ghost use Rattle.call_rules.specs.Objects.{IsRightful};
@@ -29,6 +29,7 @@ use crate::slot_catch_up::catch_up_entry;
 use call_rules::OpenObject;
 use commit_gate::{GuardedGate, PlacedReply, Session};
 use core_laws::StoreName;
+use hmac_keys::SecretKey;
 use dir_records::DirEntry;
 use object_slots::{GuardedSlot, Slot};
 use rpmb_card::RpmbPort;
@@ -67,7 +68,8 @@ fn read_bytes<F: StoreFile + Drop, L: StoreName>(
 }
 
 /// Loads the object of an entry, at which the slot stands, where nothing is loaded, and reads at most so many bytes of it from the place
-/// `at` on, fewer where the end is nearer. `tsk` is the key of the entry's application. The gate has no part in this.
+/// `at` on, fewer where the end is nearer. `storage_key` is the key that the applications' keys come from.
+/// The gate has no part in this.
 ///
 /// # Errors
 ///
@@ -76,7 +78,7 @@ pub fn read_object<F: StoreFile + Drop, L: StoreName>(
     alloc: Global,
     slot: &mut Slot<F>,
     entry: &DirEntry,
-    tsk: &[u8; 32],
+    storage_key: &SecretKey,
     at: u32,
     count: u32,
 ) -> Result<Reply, NoMemory>
@@ -84,7 +86,7 @@ pub fn read_object<F: StoreFile + Drop, L: StoreName>(
     requires form { HasForm entry.now }
     requires current { entry.now.format ≡ current_format }
     requires given { GivesEntry slot.old entry.now }
-    requires key { tsk.now ≡ object_key L.store.keys entry.now.app }
+    requires keyed { storage_key.now ≡ ssk L.store.keys.huk L.store.keys.chip }
     ensures same { slot.new ≡ record slot.old { file = slot.new.file; holds = slot.new.holds } }
     ensures guarded { SlotInvariant L.store slot.new }
     ensures rests { Rests slot.old.file slot.new.file }
@@ -92,7 +94,7 @@ pub fn read_object<F: StoreFile + Drop, L: StoreName>(
     ensures passed { OnErr result (FilePassed slot.old.file slot.new.file) }
     ensures reads { (v : Version) → GivesVersion slot.old v → IfOk result (ReadsAnswer L.store slot.old.file slot.new v at count) }
 {
-    if let Some(reply) = load_or_reply::<F, L>(alloc, slot, entry, tsk)? {
+    if let Some(reply) = load_or_reply::<F, L>(alloc, slot, entry, storage_key)? {
         return Ok(reply);
     }
     read_bytes::<F, L>(alloc, slot, at, count, entry.size)
@@ -172,7 +174,8 @@ pub fn answer_read<F: StoreFile + Drop, R: RpmbPort + Drop, L: StoreName, E: Ent
 }
 
 /// Reads at most so many bytes from the handle's position on. `found` is what the rules found of the handle, whose session was shown the
-/// history. `tsk` is the key of the entry's application. The position advances by what is given.
+/// history. `storage_key` is the key that the applications' keys come from. The position advances by what
+/// is given.
 ///
 /// # Errors
 ///
@@ -183,7 +186,7 @@ pub fn read<F: StoreFile + Drop, R: RpmbPort + Drop, L: StoreName, E: Entropy>(
     slot: &mut GuardedSlot<F, L>,
     session: &mut Session<E>,
     found: &OpenObject,
-    tsk: &[u8; 32],
+    storage_key: &SecretKey,
     handle: u32,
     count: u32,
 ) -> Result<PlacedReply, NoMemory>
@@ -193,7 +196,7 @@ pub fn read<F: StoreFile + Drop, R: RpmbPort + Drop, L: StoreName, E: Entropy>(
     requires calm { IsCalm L.store gate.old.journal.knows session.old }
     requires found { IsRightful gate.old.gate.dir.dir.entries session.old.state handle read_bit found.now }
     requires file { slot.old.number ≡ found.now.held.entry.file }
-    requires key { tsk.now ≡ object_key L.store.keys found.now.held.entry.app }
+    requires keyed { storage_key.now ≡ ssk L.store.keys.huk L.store.keys.chip }
     ensures served { IsServedOrNot L.store gate.old gate.new session.old session.new slot.old.number (Call.Read handle count) result }
     ensures number { slot.new.number ≡ slot.old.number }
     ensures entropy { session.new.entropy ≡ session.old.entropy }
@@ -205,7 +208,7 @@ pub fn read<F: StoreFile + Drop, R: RpmbPort + Drop, L: StoreName, E: Entropy>(
     let position = found.handle.position;
     let entry = found.held.entry;
     catch_up_entry(gate, &mut slot.slot, session, &entry);
-    let reply = read_object::<F, L>(alloc, &mut slot.slot, &entry, tsk, position, count)?;
+    let reply = read_object::<F, L>(alloc, &mut slot.slot, &entry, storage_key, position, count)?;
     let told = copied(alloc, &reply)?;
     Ok(answer_read(
         gate,

@@ -5,7 +5,7 @@ use anyhow::bail;
 use rpmb_card::{PROGRAM_KEY, SimCard, SimPort, empty_frame};
 use rpmb_files::{CardFault, CardName, CardParts, CardStore};
 use rpmb_frame::Frame;
-use rpmb_host::Host;
+use rpmb_host::{Host, SecretKey};
 use seed_words::SeedEntropy;
 use std::alloc::Global;
 use tee_ports::Entropy;
@@ -31,7 +31,7 @@ fn keyed_card(counter: u32) -> SimCard {
 
 // A store over the card, in a port without faults.
 fn mount(alloc: Global, card: SimCard, entropy: SeedEntropy) -> anyhow::Result<Store> {
-    let host = Host::new(SimPort::new(alloc, card), KEY);
+    let host = Host::new(SimPort::new(alloc, card), SecretKey::new(KEY));
     match CardStore::mount(alloc, host, entropy) {
         Ok(store) => Ok(store),
         Err(_) => bail!("a card is not mounted"),

@@ -117,7 +117,7 @@ fn audit_into<G: StoreFile + Drop>(
     };
     let under = Under {
         alloc,
-        keys: *keys,
+        keys: keys.copy(),
         block,
     };
     audit_under(&under, folder, lines)

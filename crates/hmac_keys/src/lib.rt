@@ -9,7 +9,11 @@ ghost use Rattle.hmac_keys.specs.Hmac.{block_key, hmac, xor_each};
 ghost use Rattle.hmac_keys.specs.KeyTable.{dir_tsk, rpmb_key, ssk, tsk};
 ghost use Rattle.sha2.specs.Sha256.{sha256};
 
+pub use byte_fields::wipe;
+pub use secret_key::SecretKey;
 use sha2::{Digest, Sha256};
+
+mod secret_key;
 
 // The length of a block of SHA-256 in bytes.
 const BLOCK: usize = 64;
@@ -24,11 +28,24 @@ const SSK_LABEL: &[u8; 19] = b"trusted storage key";
 
 const RPMB_LABEL: &[u8; 8] = b"RPMB key";
 
-/// What a device has from its maker: the hardware unique key, and the chip's identity.
-#[derive(Clone, Copy)]
+/// What a device has from its maker: the hardware unique key, and the chip's identity. It has no `Copy` and no `Debug`: who
+/// wants a second one says so.
+#[derive(Drop)]
 pub struct Keys {
     pub huk: [u8; 16],
     pub chip: [u8; 32],
+}
+
+impl Keys {
+    /// The same keys once more.
+    pub fn copy(&self) -> Keys
+        ensures { result ≡ self.now }
+    {
+        Keys {
+            huk: self.huk,
+            chip: self.chip,
+        }
+    }
 }
 
 // A part of a block, filled with zero bytes.
@@ -94,29 +111,29 @@ fn ssk_text(chip: &[u8; 32]) -> [u8; 51]
 }
 
 /// SSK, the secure storage key of the device.
-pub fn ssk(k: &Keys) -> [u8; 32]
+pub fn ssk(k: &Keys) -> SecretKey
     ensures { result ≡ ssk k.now.huk k.now.chip }
 {
-    hmac(&k.huk, &ssk_text(&k.chip))
+    SecretKey::new(hmac(&k.huk, &ssk_text(&k.chip)))
 }
 
 /// TSK, the storage key of the trusted application whose UUID has the bytes `app`.
-pub fn tsk(ssk: &[u8; 32], app: &[u8; 16]) -> [u8; 32]
+pub fn tsk(ssk: &SecretKey, app: &[u8; 16]) -> [u8; 32]
     ensures { result ≡ tsk ssk.now app.now }
 {
-    hmac(ssk, app)
+    hmac(ssk.bytes(), app)
 }
 
 /// The storage key of the directory.
-pub fn dir_tsk(ssk: &[u8; 32]) -> [u8; 32]
+pub fn dir_tsk(ssk: &SecretKey) -> [u8; 32]
     ensures { result ≡ dir_tsk ssk.now }
 {
-    hmac(ssk, &[0])
+    hmac(ssk.bytes(), &[0])
 }
 
 /// The key that authenticates frames of the replay-protected memory block (RPMB).
-pub fn rpmb_key(k: &Keys) -> [u8; 32]
+pub fn rpmb_key(k: &Keys) -> SecretKey
     ensures { result ≡ rpmb_key k.now.huk }
 {
-    hmac(&k.huk, RPMB_LABEL)
+    SecretKey::new(hmac(&k.huk, RPMB_LABEL))
 }

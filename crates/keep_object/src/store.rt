@@ -17,10 +17,12 @@ use tee_types::{AppId, Reply};
 use uuid::Uuid;
 
 // The keys of the simulated device, so that a store which `tee_run export` left can be opened. A real device has its own from its maker.
-const KEYS: Keys = Keys {
-    huk: [0, 1, 2, 3, 4, 5, 6, 7, 8, 9, 10, 11, 12, 13, 14, 15],
-    chip: [0; 32],
-};
+fn device_keys() -> Keys {
+    Keys {
+        huk: [0, 1, 2, 3, 4, 5, 6, 7, 8, 9, 10, 11, 12, 13, 14, 15],
+        chip: [0; 32],
+    }
+}
 
 // The application whose object it is.
 fn application() -> AppId {
@@ -66,8 +68,9 @@ pub fn answer<W: Files<File = File> + AllocGlobal>(
 ) -> anyhow::Result<String> {
     let alloc = rt.alloc();
     let calls = asked.calls(alloc)?;
+    let keys = device_keys();
     let mut entropy = entropy;
-    let opening = match open_folder(rt, alloc, folder, &KEYS, &mut entropy) {
+    let opening = match open_folder(rt, alloc, folder, &keys, &mut entropy) {
         Ok(opening) => opening,
         Err(fault) => bail!("the store in {folder} is not opened: {fault:?}"),
     };
@@ -75,7 +78,7 @@ pub fn answer<W: Files<File = File> + AllocGlobal>(
     match serve_serially(
         alloc,
         opening,
-        &KEYS,
+        &keys,
         &entropy,
         &applications,
         calls.as_slice(),

@@ -127,7 +127,7 @@ pub fn open_folder<'a, W: Files<File = File>, E: Entropy>(
     ensures keyed { IfOk result (λ o. IsKeyed keys.now o) }
     ensures unopened { IfOk result (λ o. o.applications ≡ []) }
 {
-    let devices = match folder_devices(rt, alloc, folder, &rpmb_key(keys)) {
+    let devices = match folder_devices(rt, alloc, folder, rpmb_key(keys).bytes()) {
         Ok(devices) => devices,
         Err(fault) => return Err(fault),
     };

@@ -14,7 +14,7 @@ use crate::words::{push_word, two_words, word_of};
 use aes_block::{Aes128, unwrap_key, wrap};
 use gcm_mode::{open_text, seal};
 use ghash_field::Ghash;
-use hmac_keys::{Keys, dir_tsk, hmac, rpmb_key, ssk, tsk};
+use hmac_keys::{Keys, SecretKey, dir_tsk, hmac, rpmb_key, ssk, tsk};
 use rpmb_card::SimCard;
 use rpmb_frame::{Frame, mac};
 use std::alloc::{AllocError, Global};
@@ -146,10 +146,10 @@ pub fn answer(alloc: Global, question: Question) -> Result<String, AllocError>
         Question::GcmSeal { parts } => sealed(alloc, parts),
         Question::GcmOpen { parts, tag } => opened(alloc, parts, &tag),
         Question::Hmac { key, text } => word_of(alloc, &hmac(&key.bytes, &text.bytes)),
-        Question::Ssk { huk, chip } => word_of(alloc, &ssk(&Keys { huk, chip })),
-        Question::Tsk { ssk, app } => word_of(alloc, &tsk(&ssk, &app)),
-        Question::DirTsk { ssk } => word_of(alloc, &dir_tsk(&ssk)),
-        Question::RpmbKey { huk } => word_of(alloc, &rpmb_key(&Keys { huk, chip: [0; 32] })),
+        Question::Ssk { huk, chip } => word_of(alloc, ssk(&Keys { huk, chip }).bytes()),
+        Question::Tsk { ssk, app } => word_of(alloc, &tsk(&SecretKey::new(ssk), &app)),
+        Question::DirTsk { ssk } => word_of(alloc, &dir_tsk(&SecretKey::new(ssk))),
+        Question::RpmbKey { huk } => word_of(alloc, rpmb_key(&Keys { huk, chip: [0; 32] }).bytes()),
         Question::Wrap { tsk, fek } => word_of(alloc, &wrap(&tsk, &fek)),
         Question::Unwrap { tsk, wrapped } => word_of(alloc, &unwrap_key(&tsk, &wrapped)),
         Question::FrameMac { key, frame } => word_of(alloc, &mac(&frame, &key)),

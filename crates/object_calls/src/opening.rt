@@ -14,6 +14,7 @@ ghost use Rattle.object_calls.specs.Seats.{IsUnused};
 
 use crate::bench::{Bench, put_together};
 use history_seats::{GateSeat, HistoryTable};
+use hmac_keys::SecretKey;
 use rpmb_card::RpmbPort;
 use std::alloc::Global;
 use std::marker::Model;
@@ -32,7 +33,7 @@ pub struct Opening<F: StoreFile + Drop, R: RpmbPort + Drop> {
     // The file of an old directory.
     pub(crate) spare: F,
     // The key that the applications' keys come from.
-    pub(crate) storage_key: [u8; 32],
+    pub(crate) storage_key: SecretKey,
     pub(crate) alloc: Global,
     // The table of the phase's history, and the gate's seat in it.
     pub(crate) table: HistoryTable,
@@ -82,7 +83,7 @@ impl<F: StoreFile + Drop, R: RpmbPort + Drop> Opening<F, R> {
         gate: Gate<F, R>,
         files: Vec<F>,
         spare: F,
-        storage_key: [u8; 32],
+        storage_key: SecretKey,
         table: HistoryTable,
         seat: GateSeat,
     ) -> Opening<F, R>

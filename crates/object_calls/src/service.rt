@@ -11,6 +11,7 @@ use crate::file_places::free_places;
 use crate::opening::Opening;
 use crate::seat_splitting::{SplitSlots, split_passes, split_slots};
 use core_laws::StoreName;
+use hmac_keys::SecretKey;
 use rpmb_card::RpmbPort;
 use serial_calls::{GuardedGate, GuardedSlot, Journal, Session};
 use std::alloc::Global;
@@ -26,7 +27,7 @@ pub struct Service<F: StoreFile + Drop, R: RpmbPort + Drop, L: StoreName> {
     // The slot of file 1 first.
     pub(crate) slots: Vec<GuardedSlot<F, L>>,
     // The key that the applications' keys come from.
-    pub(crate) storage_key: [u8; 32],
+    pub(crate) storage_key: SecretKey,
     // Where the files of objects come to at the end, by their numbers: it has no file.
     pub(crate) places: Vec<Option<F>>,
     // Where all files go then: it has room for them, and no file.

@@ -8,6 +8,7 @@ ghost use Rattle.object_calls.specs.Services.{IsService};
 
 use crate::service::Service;
 use core_laws::StoreName;
+use hmac_keys::SecretKey;
 use rpmb_card::RpmbPort;
 use serial_calls::{GuardedGate, GuardedSlot};
 use tee_ports::StoreFile;
@@ -20,7 +21,7 @@ pub struct ServiceParts<F: StoreFile + Drop, R: RpmbPort + Drop, L: StoreName> {
     /// The slot of each file of an object, that of file 1 first.
     pub slots: Vec<GuardedSlot<F, L>>,
     /// The key that the applications' keys come from.
-    pub storage_key: [u8; 32],
+    pub storage_key: SecretKey,
     /// A place for each file of an object, all of them free.
     pub places: Vec<Option<F>>,
     /// A list without a file, that has room for all of a bench.

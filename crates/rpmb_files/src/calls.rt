@@ -108,7 +108,7 @@ mod tests {
     use crate::CardParts;
     use rpmb_card::{CardRig, PROGRAM_KEY, SimCard, SimPort, empty_frame};
     use rpmb_frame::Frame;
-    use rpmb_host::Host;
+    use rpmb_host::{Host, SecretKey};
     use std::test::Fail;
     use tee_ports::ListEntropy;
     use uuid::Uuid;
@@ -130,7 +130,7 @@ mod tests {
     }
 
     fn mounted(alloc: Global, port: SimPort) -> Option<SimStore> {
-        let host = Host::new(port, KEY);
+        let host = Host::new(port, SecretKey::new(KEY));
         CardStore::mount(alloc, host, ListEntropy::new([0; 16])).ok()
     }
 

@@ -12,6 +12,7 @@ ghost use Rattle.rpmb_host.specs.Calls.{Counts, WriteExchanges, block_wanted, co
 use crate::HostFault;
 use crate::requests::{block_request, counter_request, result_request, write_request};
 use crate::verdict::{Wanted, judge};
+use hmac_keys::SecretKey;
 use rpmb_card::{BLOCK_READ, BLOCK_WRITTEN, COUNTER_READ, CardRig, NoMemory, RpmbPort};
 use rpmb_frame::Frame;
 use std::marker::Model;
@@ -22,7 +23,7 @@ use std::marker::Model;
 #[derive(Drop)]
 pub struct Host<R: RpmbPort> {
     port: R,
-    key: [u8; 32],
+    key: SecretKey,
 }
 
 impl<R: RpmbPort> Model for Host<R> {
@@ -35,7 +36,7 @@ impl<R: RpmbPort> Model for Host<R> {
 
 impl<R: RpmbPort> Host<R> {
     /// A host over this port, with this key. Nothing is sent.
-    pub fn new(port: R, key: [u8; 32]) -> Host<R>
+    pub fn new(port: R, key: SecretKey) -> Host<R>
         ensures { result ≡ record { port = port; key = key } }
     {
         Host { port, key }
@@ -171,7 +172,7 @@ impl<R: RpmbPort> Host<R> {
             counter: Some(counter + 1),
             address: Some(address),
         };
-        let request = write_request(&self.key, address, counter, block);
+        let request = write_request(self.key.bytes(), address, counter, block);
         let answer = self.write(&request, &wanted)?;
         Ok(answer.counter)
     }
@@ -197,7 +198,7 @@ impl<R: RpmbPort> Host<R> {
         ensures key { self.new.key ≡ self.old.key }
     {
         let answer = self.port.exchange(request)?;
-        judge(&self.key, wanted, &answer)
+        judge(self.key.bytes(), wanted, &answer)
     }
 }
 

@@ -8,5 +8,6 @@ mod requests;
 mod verdict;
 
 pub use fault::HostFault;
+pub use hmac_keys::SecretKey;
 pub use host::Host;
 pub use verdict::Wanted;

@@ -17,7 +17,7 @@ use crate::card_state::{CardEnd, CardRun};
 use card_script::{CardLine, CardReply};
 use rpmb_card::CardRig;
 use rpmb_files::{CardHalted, CardParts, CardStore};
-use rpmb_host::Host;
+use rpmb_host::{Host, SecretKey};
 use std::alloc::Global;
 use tee_ports::{Entropy, Sink};
 use tee_types::NoMemory;
@@ -109,7 +109,7 @@ fn do_list<K: Sink, R: CardRig + Drop, E: Entropy>(
 /// Disarms the port of a store, and mounts it anew. The nonces go on from where they stood.
 fn remount<R: CardRig + Drop, E: Entropy>(
     alloc: Global,
-    key: &[u8; 32],
+    key: &SecretKey,
     store: CardStore<R, E>,
 ) -> Result<CardStore<R, E>, CardHalted<R, E>>
     requires { store.host.key ≡ key.now }
@@ -123,13 +123,13 @@ fn remount<R: CardRig + Drop, E: Entropy>(
     let CardParts { host, entropy } = store.into_parts();
     let mut port = host.into_port();
     port.disarm();
-    CardStore::mount(alloc, Host::new(port, *key), entropy)
+    CardStore::mount(alloc, Host::new(port, key.copy()), entropy)
 }
 
 /// Mounts the store anew, and sends the line.
 fn do_remount<K: Sink, R: CardRig + Drop, E: Entropy>(
     alloc: Global,
-    key: &[u8; 32],
+    key: &SecretKey,
     line: &CardLine,
     run: CardRun<R, E>,
     sink: &mut K,
@@ -161,7 +161,7 @@ fn do_remount<K: Sink, R: CardRig + Drop, E: Entropy>(
 /// Does a line, and sends its text.
 pub(crate) fn do_line<K: Sink, R: CardRig + Drop, E: Entropy>(
     alloc: Global,
-    key: &[u8; 32],
+    key: &SecretKey,
     line: &CardLine,
     run: CardRun<R, E>,
     sink: &mut K,

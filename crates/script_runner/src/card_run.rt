@@ -18,7 +18,7 @@ use crate::card_refusal::print_card_refusal;
 use crate::card_state::{CardEnd, CardRun};
 use crate::{RunEnd, Status, read_text};
 use card_script::{CardScript, CardScriptFault, parse};
-use hmac_keys::{Keys, rpmb_key};
+use hmac_keys::{Keys, SecretKey, rpmb_key};
 use rpmb_card::CardRig;
 use rpmb_files::{CardHalted, CardParts, CardStore};
 use rpmb_host::Host;
@@ -44,7 +44,7 @@ fn finish<K: Sink, R: CardRig + Drop, E: Entropy>(run: CardRun<R, E>, sink: &mut
 /// Does the lines of a script on a store that was mounted, and writes their text.
 fn do_lines<K: Sink, R: CardRig + Drop, E: Entropy>(
     alloc: Global,
-    key: &[u8; 32],
+    key: &SecretKey,
     script: &CardScript,
     run: CardRun<R, E>,
     sink: &mut K,
@@ -82,7 +82,7 @@ fn run_lines<K: Sink, R: CardRig + Drop, E: Entropy>(
         (K.held sink.old) (K.held sink.new) (R.state card) (R.state result.card) result.status }
 {
     let key = rpmb_key(keys);
-    match CardStore::mount(alloc, Host::new(card, key), entropy) {
+    match CardStore::mount(alloc, Host::new(card, key.copy()), entropy) {
         Ok(store) => {
             let run = CardRun {
                 store,

@@ -40,7 +40,7 @@ fn keyed_card() -> SimCard
 {
     let mut card = SimCard::blank();
     let program = Frame {
-        key_or_mac: rpmb_key(&simulator_keys()),
+        key_or_mac: *rpmb_key(&simulator_keys()).bytes(),
         kind: PROGRAM_KEY,
         ..empty_frame()
     };

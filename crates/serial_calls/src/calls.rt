@@ -23,6 +23,7 @@ use crate::name_calls::{delete, rename};
 use crate::read_calls::{info, read};
 use call_steps::{GuardedGate, GuardedSlot, PlacedReply, Session, answer_alone};
 use core_laws::StoreName;
+use hmac_keys::SecretKey;
 use rpmb_card::RpmbPort;
 use std::alloc::Global;
 use tee_ports::{Entropy, StoreFile};
@@ -33,7 +34,7 @@ pub(crate) fn serve_object<F: StoreFile + Drop, R: RpmbPort + Drop, L: StoreName
     alloc: Global,
     gate: &mut GuardedGate<F, R, L>,
     slots: &mut Vec<GuardedSlot<F, L>>,
-    storage_key: &[u8; 32],
+    storage_key: &SecretKey,
     session: &mut Session<E>,
     call: &Call,
 ) -> Result<PlacedReply, NoMemory>
@@ -88,7 +89,7 @@ pub fn serve<F: StoreFile + Drop, R: RpmbPort + Drop, L: StoreName, E: Entropy>(
     alloc: Global,
     gate: &mut GuardedGate<F, R, L>,
     slots: &mut Vec<GuardedSlot<F, L>>,
-    storage_key: &[u8; 32],
+    storage_key: &SecretKey,
     session: &mut Session<E>,
     call: &Call,
 ) -> Result<PlacedReply, NoMemory>

@@ -4,7 +4,7 @@ ghost use Rattle.std.specs.Prelude.{◌≡◌, ◌+◌, ◌≤◌, IfOk, None, O
 ghost use Rattle.serial_calls.specs.ChangeChecks.{ChecksChange};
 ghost use Rattle.serial_calls.specs.ChangeReplies.{reply_of_check};
 ghost use Rattle.serial_calls.specs.ChangeStaging.{resizing, writing};
-ghost use Rattle.crash_core.specs.DeviceKeys.{object_key};
+ghost use Rattle.hmac_keys.specs.KeyTable.{ssk};
 ghost use Rattle.node_image.specs.References.{current_format};
 ghost use Rattle.dir_records.specs.Form.{HasForm};
 ghost use Rattle.disk_model.specs.Calls.{Rests};
@@ -17,6 +17,7 @@ ghost use Rattle.call_steps.specs.SlotValues.{IsLive};
 
 use call_steps::{Slot, SlotFault, check_truncate, check_write, fault_reply, load_or_reply};
 use core_laws::StoreName;
+use hmac_keys::SecretKey;
 use dir_records::DirEntry;
 use std::alloc::Global;
 use tee_ports::StoreFile;
@@ -80,7 +81,7 @@ fn check_resized<F: StoreFile + Drop, L: StoreName>(
 }
 
 /// Loads the object of an entry, at which the slot stands, where nothing is loaded, and reads the blocks that a write of these bytes from the
-/// place `start` on needs, and no more. Gives the reply to that write where no commit can follow. `tsk` is the key of the entry's application.
+/// place `start` on needs, and no more. Gives the reply to that write where no commit can follow. `storage_key` is the key that the applications' keys come from.
 ///
 /// # Errors
 ///
@@ -89,7 +90,7 @@ pub(crate) fn check_write_object<F: StoreFile + Drop, L: StoreName>(
     alloc: Global,
     slot: &mut Slot<F>,
     entry: &DirEntry,
-    tsk: &[u8; 32],
+    storage_key: &SecretKey,
     start: u32,
     bytes: &[u8],
 ) -> Result<Reply, NoMemory>
@@ -97,7 +98,7 @@ pub(crate) fn check_write_object<F: StoreFile + Drop, L: StoreName>(
     requires form { HasForm entry.now }
     requires current { entry.now.format ≡ current_format }
     requires given { GivesEntry slot.old entry.now }
-    requires key { tsk.now ≡ object_key L.store.keys entry.now.app }
+    requires keyed { storage_key.now ≡ ssk L.store.keys.huk L.store.keys.chip }
     requires fits { start + length bytes.now ≤ 1044480 }
     ensures same { slot.new ≡ record slot.old { file = slot.new.file; holds = slot.new.holds } }
     ensures guarded { SlotInvariant L.store slot.new }
@@ -105,14 +106,14 @@ pub(crate) fn check_write_object<F: StoreFile + Drop, L: StoreName>(
     ensures passed { OnErr result (FilePassed slot.old.file slot.new.file) }
     ensures checks { (v : Version) → GivesVersion slot.old v → IfOk result (ChecksChange L.store slot.old.file slot.new v (writing start bytes.now)) }
 {
-    if let Some(reply) = load_or_reply::<F, L>(alloc, slot, entry, tsk)? {
+    if let Some(reply) = load_or_reply::<F, L>(alloc, slot, entry, storage_key)? {
         return Ok(reply);
     }
     check_written::<F, L>(alloc, slot, start, bytes)
 }
 
 /// Loads the object of an entry, at which the slot stands, where nothing is loaded, and reads the block that so many bytes of data need, and no
-/// more. Gives the reply to that truncation where no commit can follow. `tsk` is the key of the entry's application.
+/// more. Gives the reply to that truncation where no commit can follow. `storage_key` is the key that the applications' keys come from.
 ///
 /// # Errors
 ///
@@ -121,14 +122,14 @@ pub(crate) fn check_truncate_object<F: StoreFile + Drop, L: StoreName>(
     alloc: Global,
     slot: &mut Slot<F>,
     entry: &DirEntry,
-    tsk: &[u8; 32],
+    storage_key: &SecretKey,
     size: u32,
 ) -> Result<Reply, NoMemory>
     requires guarded { SlotInvariant L.store slot.old }
     requires form { HasForm entry.now }
     requires current { entry.now.format ≡ current_format }
     requires given { GivesEntry slot.old entry.now }
-    requires key { tsk.now ≡ object_key L.store.keys entry.now.app }
+    requires keyed { storage_key.now ≡ ssk L.store.keys.huk L.store.keys.chip }
     requires fits { size ≤ 1044480 }
     ensures same { slot.new ≡ record slot.old { file = slot.new.file; holds = slot.new.holds } }
     ensures guarded { SlotInvariant L.store slot.new }
@@ -136,7 +137,7 @@ pub(crate) fn check_truncate_object<F: StoreFile + Drop, L: StoreName>(
     ensures passed { OnErr result (FilePassed slot.old.file slot.new.file) }
     ensures checks { (v : Version) → GivesVersion slot.old v → IfOk result (ChecksChange L.store slot.old.file slot.new v (resizing size)) }
 {
-    if let Some(reply) = load_or_reply::<F, L>(alloc, slot, entry, tsk)? {
+    if let Some(reply) = load_or_reply::<F, L>(alloc, slot, entry, storage_key)? {
         return Ok(reply);
     }
     check_resized::<F, L>(alloc, slot, size)

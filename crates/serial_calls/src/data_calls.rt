@@ -15,7 +15,7 @@ use crate::ruled_calls::answer;
 use call_rules::Decision;
 use call_steps::{GuardedGate, GuardedSlot, PlacedReply, Session};
 use core_laws::StoreName;
-use hmac_keys::tsk;
+use hmac_keys::SecretKey;
 use rpmb_card::RpmbPort;
 use std::alloc::Global;
 use tee_ports::{Entropy, StoreFile};
@@ -26,7 +26,7 @@ pub(crate) fn write<F: StoreFile + Drop, R: RpmbPort + Drop, L: StoreName, E: En
     alloc: Global,
     gate: &mut GuardedGate<F, R, L>,
     slots: &mut Vec<GuardedSlot<F, L>>,
-    storage_key: &[u8; 32],
+    storage_key: &SecretKey,
     session: &mut Session<E>,
     call: &Call,
     handle: u32,
@@ -49,7 +49,6 @@ pub(crate) fn write<F: StoreFile + Drop, R: RpmbPort + Drop, L: StoreName, E: En
         Decision::Needs(found) => found,
     };
     let place = place_of(&*gate, slots, &found.held);
-    let key = tsk(storage_key, &found.held.entry.app.bytes());
     let slot = &mut slots[place];
     crate::write(
         alloc,
@@ -57,7 +56,7 @@ pub(crate) fn write<F: StoreFile + Drop, R: RpmbPort + Drop, L: StoreName, E: En
         slot,
         session,
         &found,
-        &key,
+        storage_key,
         handle,
         bytes.as_slice(),
     )
@@ -68,7 +67,7 @@ pub(crate) fn truncate<F: StoreFile + Drop, R: RpmbPort + Drop, L: StoreName, E:
     alloc: Global,
     gate: &mut GuardedGate<F, R, L>,
     slots: &mut Vec<GuardedSlot<F, L>>,
-    storage_key: &[u8; 32],
+    storage_key: &SecretKey,
     session: &mut Session<E>,
     handle: u32,
     size: u32,
@@ -96,7 +95,6 @@ pub(crate) fn truncate<F: StoreFile + Drop, R: RpmbPort + Drop, L: StoreName, E:
         Decision::Needs(found) => found,
     };
     let place = place_of(&*gate, slots, &found.held);
-    let key = tsk(storage_key, &found.held.entry.app.bytes());
     let slot = &mut slots[place];
-    crate::truncate(alloc, gate, slot, session, &found, &key, handle, size)
+    crate::truncate(alloc, gate, slot, session, &found, storage_key, handle, size)
 }

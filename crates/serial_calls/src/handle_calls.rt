@@ -15,7 +15,7 @@ use crate::ruled_calls::answer;
 use call_rules::Decision;
 use call_steps::{GuardedGate, GuardedSlot, PlacedReply, Session};
 use core_laws::StoreName;
-use hmac_keys::tsk;
+use hmac_keys::{SecretKey, tsk, wipe};
 use rpmb_card::RpmbPort;
 use std::alloc::Global;
 use tee_ports::{Entropy, StoreFile};
@@ -26,7 +26,7 @@ pub(crate) fn open<F: StoreFile + Drop, R: RpmbPort + Drop, L: StoreName, E: Ent
     alloc: Global,
     gate: &mut GuardedGate<F, R, L>,
     slots: &mut Vec<GuardedSlot<F, L>>,
-    storage_key: &[u8; 32],
+    storage_key: &SecretKey,
     session: &mut Session<E>,
     id: ObjectId,
     flags: Flags,
@@ -52,9 +52,8 @@ pub(crate) fn open<F: StoreFile + Drop, R: RpmbPort + Drop, L: StoreName, E: Ent
         Decision::Needs(held) => held,
     };
     let place = place_of(&*gate, slots, &held);
-    let key = tsk(storage_key, &held.entry.app.bytes());
     let slot = &mut slots[place];
-    call_steps::open(alloc, gate, slot, session, &held, &key, id, flags)
+    call_steps::open(alloc, gate, slot, session, &held, storage_key, id, flags)
 }
 
 /// TEE_CreatePersistentObject: `call` is a create.
@@ -62,7 +61,7 @@ pub(crate) fn create<F: StoreFile + Drop, R: RpmbPort + Drop, L: StoreName, E: E
     alloc: Global,
     gate: &mut GuardedGate<F, R, L>,
     slots: &mut Vec<GuardedSlot<F, L>>,
-    storage_key: &[u8; 32],
+    storage_key: &SecretKey,
     session: &mut Session<E>,
     call: &Call,
 ) -> Result<PlacedReply, NoMemory>
@@ -93,7 +92,9 @@ pub(crate) fn create<F: StoreFile + Drop, R: RpmbPort + Drop, L: StoreName, E: E
     // The call for the event.
     let kept = call.copy(alloc)?;
     let file = crate::reserve(gate, session);
-    let key = tsk(storage_key, &session.app().bytes());
+    let mut key = tsk(storage_key, &session.app().bytes());
     let slot = &mut slots[usize::from(file) - 1];
-    crate::create(alloc, gate, slot, session, &place, &key, kept)
+    let created = crate::create(alloc, gate, slot, session, &place, &key, kept);
+    wipe(&mut key);
+    created
 }

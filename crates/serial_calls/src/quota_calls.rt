@@ -17,6 +17,7 @@ use app_quota::tells_beyond;
 use app_totals::{Totals, may_grow};
 use call_steps::{GuardedGate, GuardedSlot, Session, forecast};
 use core_laws::StoreName;
+use hmac_keys::SecretKey;
 use rpmb_card::RpmbPort;
 use std::alloc::Global;
 use tee_ports::{Entropy, StoreFile};
@@ -27,7 +28,7 @@ fn serve_other<F: StoreFile + Drop, R: RpmbPort + Drop, L: StoreName, E: Entropy
     alloc: Global,
     gate: &mut GuardedGate<F, R, L>,
     slots: &mut Vec<GuardedSlot<F, L>>,
-    storage_key: &[u8; 32],
+    storage_key: &SecretKey,
     session: &mut Session<E>,
     limit: Totals,
     call: &Call,
@@ -55,7 +56,7 @@ fn serve_growing<F: StoreFile + Drop, R: RpmbPort + Drop, L: StoreName, E: Entro
     alloc: Global,
     gate: &mut GuardedGate<F, R, L>,
     slots: &mut Vec<GuardedSlot<F, L>>,
-    storage_key: &[u8; 32],
+    storage_key: &SecretKey,
     session: &mut Session<E>,
     limit: Totals,
     call: &Call,
@@ -99,7 +100,7 @@ pub fn serve_within<F: StoreFile + Drop, R: RpmbPort + Drop, L: StoreName, E: En
     alloc: Global,
     gate: &mut GuardedGate<F, R, L>,
     slots: &mut Vec<GuardedSlot<F, L>>,
-    storage_key: &[u8; 32],
+    storage_key: &SecretKey,
     session: &mut Session<E>,
     limit: Totals,
     call: &Call,

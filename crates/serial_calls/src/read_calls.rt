@@ -13,7 +13,7 @@ use crate::ruled_calls::answer;
 use call_rules::Decision;
 use call_steps::{GuardedGate, GuardedSlot, PlacedReply, Session};
 use core_laws::StoreName;
-use hmac_keys::tsk;
+use hmac_keys::SecretKey;
 use rpmb_card::RpmbPort;
 use std::alloc::Global;
 use tee_ports::{Entropy, StoreFile};
@@ -24,7 +24,7 @@ pub(crate) fn read<F: StoreFile + Drop, R: RpmbPort + Drop, L: StoreName, E: Ent
     alloc: Global,
     gate: &mut GuardedGate<F, R, L>,
     slots: &mut Vec<GuardedSlot<F, L>>,
-    storage_key: &[u8; 32],
+    storage_key: &SecretKey,
     session: &mut Session<E>,
     handle: u32,
     size: u32,
@@ -50,9 +50,8 @@ pub(crate) fn read<F: StoreFile + Drop, R: RpmbPort + Drop, L: StoreName, E: Ent
         Decision::Needs(found) => found,
     };
     let place = place_of(&*gate, slots, &found.held);
-    let key = tsk(storage_key, &found.held.entry.app.bytes());
     let slot = &mut slots[place];
-    call_steps::read(alloc, gate, slot, session, &found, &key, handle, size)
+    call_steps::read(alloc, gate, slot, session, &found, storage_key, handle, size)
 }
 
 /// TEE_GetObjectInfo1.
@@ -60,7 +59,7 @@ pub(crate) fn info<F: StoreFile + Drop, R: RpmbPort + Drop, L: StoreName, E: Ent
     alloc: Global,
     gate: &mut GuardedGate<F, R, L>,
     slots: &mut Vec<GuardedSlot<F, L>>,
-    storage_key: &[u8; 32],
+    storage_key: &SecretKey,
     session: &mut Session<E>,
     handle: u32,
 ) -> Result<PlacedReply, NoMemory>
@@ -85,7 +84,6 @@ pub(crate) fn info<F: StoreFile + Drop, R: RpmbPort + Drop, L: StoreName, E: Ent
         Decision::Needs(found) => found,
     };
     let place = place_of(&*gate, slots, &found.held);
-    let key = tsk(storage_key, &found.held.entry.app.bytes());
     let slot = &mut slots[place];
-    call_steps::info(alloc, gate, slot, session, &found, &key, handle)
+    call_steps::info(alloc, gate, slot, session, &found, storage_key, handle)
 }

@@ -11,7 +11,7 @@ ghost use Rattle.htree_file.specs.Answers.{FilePassed};
 ghost use Rattle.serial_calls.specs.ChangeCauses.{HasStageCause};
 ghost use Rattle.serial_calls.specs.Changed.{AnswersStaged, IsChangedOrNot};
 ghost use Rattle.serial_calls.specs.ChangeStaging.{StagesChange, StagesEntry, resizing};
-ghost use Rattle.crash_core.specs.DeviceKeys.{object_key};
+ghost use Rattle.hmac_keys.specs.KeyTable.{ssk};
 ghost use Rattle.node_image.specs.References.{current_format};
 ghost use Rattle.dir_records.specs.Form.{HasForm};
 ghost use Rattle.disk_model.specs.Calls.{GoesOn, Rests};
@@ -36,6 +36,7 @@ use call_steps::{
     load_or_reply, stage_truncate, tell, twice,
 };
 use core_laws::StoreName;
+use hmac_keys::SecretKey;
 use dir_records::DirEntry;
 use rpmb_card::RpmbPort;
 use std::alloc::Global;
@@ -70,8 +71,8 @@ fn truncate_loaded<F: StoreFile + Drop, L: StoreName, E: Entropy>(
     Ok(staged)
 }
 
-/// Loads the object of an entry, at which the slot stands, where nothing is loaded, and stages so many bytes of data in its file. `tsk` is
-/// the key of the entry's application. The gate has no part in this.
+/// Loads the object of an entry, at which the slot stands, where nothing is loaded, and stages so many bytes of data in its file.
+/// `storage_key` is the key that the applications' keys come from. The gate has no part in this.
 ///
 /// # Errors
 ///
@@ -81,14 +82,14 @@ pub fn truncate_object<F: StoreFile + Drop, L: StoreName, E: Entropy>(
     slot: &mut Slot<F>,
     entropy: &mut E,
     entry: &DirEntry,
-    tsk: &[u8; 32],
+    storage_key: &SecretKey,
     size: u32,
 ) -> Result<Staged, NoMemory>
     requires guarded { SlotInvariant L.store slot.old }
     requires form { HasForm entry.now }
     requires current { entry.now.format ≡ current_format }
     requires given { GivesEntry slot.old entry.now }
-    requires key { tsk.now ≡ object_key L.store.keys entry.now.app }
+    requires keyed { storage_key.now ≡ ssk L.store.keys.huk L.store.keys.chip }
     requires fits { size ≤ 1044480 }
     ensures same { slot.new ≡ record slot.old { file = slot.new.file; holds = slot.new.holds } }
     // Without its stage the slot may stand behind its lock; and it has none where memory ran out.
@@ -102,7 +103,7 @@ pub fn truncate_object<F: StoreFile + Drop, L: StoreName, E: Entropy>(
     ensures goes_on { GoesOn slot.old.file slot.new.file }
     ensures draws { DrawsOn E.is_reliable E.faults entropy.old entropy.new }
 {
-    if let Some(reply) = load_or_reply::<F, L>(alloc, slot, entry, tsk)? {
+    if let Some(reply) = load_or_reply::<F, L>(alloc, slot, entry, storage_key)? {
         return Ok(Staged::Unstaged(reply));
     }
     truncate_loaded::<F, L, E>(alloc, slot, entropy, size)
@@ -148,8 +149,8 @@ pub fn answer_truncate<F: StoreFile + Drop, R: RpmbPort + Drop, L: StoreName, E:
 }
 
 /// Answers another size of an open object's data where no commit can follow: that the counter is spent, or why the object's file does not give
-/// what the truncation needs. `found` is what the rules found of the handle, whose session was shown the history. `tsk` is the key of the
-/// entry's application. The slot is shown the history first. Its file is only read, and nothing is drawn.
+/// what the truncation needs. `found` is what the rules found of the handle, whose session was shown the history. `storage_key` is
+/// the key that the applications' keys come from. The slot is shown the history first. Its file is only read, and nothing is drawn.
 ///
 /// # Errors
 ///
@@ -160,7 +161,7 @@ pub fn truncate_spent<F: StoreFile + Drop, R: RpmbPort + Drop, L: StoreName, E: 
     slot: &mut Slot<F>,
     session: &mut Session<E>,
     found: &OpenObject,
-    tsk: &[u8; 32],
+    storage_key: &SecretKey,
     handle: u32,
     size: u32,
 ) -> Result<PlacedReply, NoMemory>
@@ -174,7 +175,7 @@ pub fn truncate_spent<F: StoreFile + Drop, R: RpmbPort + Drop, L: StoreName, E: 
     requires fits { size ≤ 1044480 }
     requires guarded { SlotInvariant L.store slot.old }
     requires file { slot.old.number ≡ found.now.held.entry.file }
-    requires key { tsk.now ≡ object_key L.store.keys found.now.held.entry.app }
+    requires keyed { storage_key.now ≡ ssk L.store.keys.huk L.store.keys.chip }
     ensures served { IsServedOrNot L.store gate.old gate.new session.old session.new slot.old.number (Call.Truncate handle size) result }
     ensures kind { IfOk result (λ answer. IsNotDone answer.reply) }
     ensures cause { IfOk result (λ answer. HasToldCause slot.old.file slot.new.file slot.old.number answer.reply) }
@@ -189,15 +190,15 @@ pub fn truncate_spent<F: StoreFile + Drop, R: RpmbPort + Drop, L: StoreName, E: 
 {
     let entry = found.held.entry;
     catch_up_entry(gate, slot, session, &entry);
-    let reply = check_truncate_object::<F, L>(alloc, slot, &entry, tsk, size)?;
+    let reply = check_truncate_object::<F, L>(alloc, slot, &entry, storage_key, size)?;
     let (kept, told) = twice(reply);
     let call = Call::Truncate { handle, size };
     Ok(tell(gate, slot, session, call, kept, told))
 }
 
 /// Sets how many bytes of data the object has. A size that it has already is set at once. `found` is what the rules found of the handle,
-/// whose session was shown the history. `tsk` is the key of the entry's application. Where the card's counter is at its end the block is read
-/// that the truncation needs, nothing is drawn or written, and that is told.
+/// whose session was shown the history. `storage_key` is the key that the applications' keys come from. Where the card's counter is at its
+/// end the block is read that the truncation needs, nothing is drawn or written, and that is told.
 ///
 /// # Errors
 ///
@@ -208,7 +209,7 @@ pub fn truncate<F: StoreFile + Drop, R: RpmbPort + Drop, L: StoreName, E: Entrop
     slot: &mut GuardedSlot<F, L>,
     session: &mut Session<E>,
     found: &OpenObject,
-    tsk: &[u8; 32],
+    storage_key: &SecretKey,
     handle: u32,
     size: u32,
 ) -> Result<PlacedReply, NoMemory>
@@ -219,7 +220,7 @@ pub fn truncate<F: StoreFile + Drop, R: RpmbPort + Drop, L: StoreName, E: Entrop
     requires calm { IsCalm L.store gate.old.journal.knows session.old }
     requires found { IsRightful gate.old.gate.dir.dir.entries session.old.state handle write_bit found.now }
     requires file { slot.old.number ≡ found.now.held.entry.file }
-    requires key { tsk.now ≡ object_key L.store.keys found.now.held.entry.app }
+    requires keyed { storage_key.now ≡ ssk L.store.keys.huk L.store.keys.chip }
     ensures changed { IsChangedOrNot F.state R.state (E.is_reliable session.old.entropy) (E.faults session.old.entropy) (E.faults session.new.entropy)
         L.store gate.old gate.new slot.old slot.new session.old session.new (Call.Truncate handle size) found.now.held size result }
     // Where no commit can follow the file is only read, and nothing is drawn.
@@ -247,13 +248,13 @@ pub fn truncate<F: StoreFile + Drop, R: RpmbPort + Drop, L: StoreName, E: Entrop
             &mut slot.slot,
             session,
             found,
-            tsk,
+            storage_key,
             handle,
             size,
         );
     }
     catch_up_entry(gate, &mut slot.slot, session, &entry);
     let entropy = session.entropy_mut();
-    let staged = truncate_object::<F, L, E>(alloc, &mut slot.slot, entropy, &entry, tsk, size)?;
+    let staged = truncate_object::<F, L, E>(alloc, &mut slot.slot, entropy, &entry, storage_key, size)?;
     Ok(answer_truncate(gate, &mut slot.slot, session, found, handle, size, staged))
 }

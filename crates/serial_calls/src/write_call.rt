@@ -11,7 +11,7 @@ ghost use Rattle.htree_file.specs.Answers.{FilePassed};
 ghost use Rattle.serial_calls.specs.ChangeCauses.{HasStageCause};
 ghost use Rattle.serial_calls.specs.Changed.{AnswersStaged, IsChangedOrNot};
 ghost use Rattle.serial_calls.specs.ChangeStaging.{StagesChange, StagesEntry, writing};
-ghost use Rattle.crash_core.specs.DeviceKeys.{object_key};
+ghost use Rattle.hmac_keys.specs.KeyTable.{ssk};
 ghost use Rattle.node_image.specs.References.{current_format};
 ghost use Rattle.dir_records.specs.Form.{HasForm};
 ghost use Rattle.disk_model.specs.Calls.{GoesOn, Rests};
@@ -36,6 +36,7 @@ use call_steps::{
     load_or_reply, stage_write, tell, twice,
 };
 use core_laws::StoreName;
+use hmac_keys::SecretKey;
 use dir_records::DirEntry;
 use rpmb_card::RpmbPort;
 use std::alloc::Global;
@@ -73,7 +74,7 @@ fn write_loaded<F: StoreFile + Drop, L: StoreName, E: Entropy>(
 }
 
 /// Loads the object of an entry, at which the slot stands, where nothing is loaded, and stages a write of these bytes from the place `start`
-/// on in its file. `tsk` is the key of the entry's application. The gate has no part in this.
+/// on in its file. `storage_key` is the key that the applications' keys come from. The gate has no part in this.
 ///
 /// # Errors
 ///
@@ -83,7 +84,7 @@ pub fn write_object<F: StoreFile + Drop, L: StoreName, E: Entropy>(
     slot: &mut Slot<F>,
     entropy: &mut E,
     entry: &DirEntry,
-    tsk: &[u8; 32],
+    storage_key: &SecretKey,
     start: u32,
     bytes: &[u8],
 ) -> Result<Staged, NoMemory>
@@ -91,7 +92,7 @@ pub fn write_object<F: StoreFile + Drop, L: StoreName, E: Entropy>(
     requires form { HasForm entry.now }
     requires current { entry.now.format ≡ current_format }
     requires given { GivesEntry slot.old entry.now }
-    requires key { tsk.now ≡ object_key L.store.keys entry.now.app }
+    requires keyed { storage_key.now ≡ ssk L.store.keys.huk L.store.keys.chip }
     requires fits { start + length bytes.now ≤ 1044480 }
     ensures same { slot.new ≡ record slot.old { file = slot.new.file; holds = slot.new.holds } }
     // Without its stage the slot may stand behind its lock; and it has none where memory ran out.
@@ -105,7 +106,7 @@ pub fn write_object<F: StoreFile + Drop, L: StoreName, E: Entropy>(
     ensures goes_on { GoesOn slot.old.file slot.new.file }
     ensures draws { DrawsOn E.is_reliable E.faults entropy.old entropy.new }
 {
-    if let Some(reply) = load_or_reply::<F, L>(alloc, slot, entry, tsk)? {
+    if let Some(reply) = load_or_reply::<F, L>(alloc, slot, entry, storage_key)? {
         return Ok(Staged::Unstaged(reply));
     }
     write_loaded::<F, L, E>(alloc, slot, entropy, start, bytes)
@@ -162,8 +163,8 @@ pub fn answer_write<F: StoreFile + Drop, R: RpmbPort + Drop, L: StoreName, E: En
 }
 
 /// Answers a write of these bytes, of which there are some, where no commit can follow: that the counter is spent, or why the object's file
-/// does not give what the write needs. `found` is what the rules found of the handle, whose session was shown the history. `tsk` is the key of
-/// the entry's application. The slot is shown the history first. Its file is only read, and nothing is drawn.
+/// does not give what the write needs. `found` is what the rules found of the handle, whose session was shown the history. `storage_key`
+/// is the key that the applications' keys come from. The slot is shown the history first. Its file is only read, and nothing is drawn.
 ///
 /// # Errors
 ///
@@ -174,7 +175,7 @@ pub fn write_spent<F: StoreFile + Drop, R: RpmbPort + Drop, L: StoreName, E: Ent
     slot: &mut Slot<F>,
     session: &mut Session<E>,
     found: &OpenObject,
-    tsk: &[u8; 32],
+    storage_key: &SecretKey,
     handle: u32,
     bytes: Bytes,
 ) -> Result<PlacedReply, NoMemory>
@@ -188,7 +189,7 @@ pub fn write_spent<F: StoreFile + Drop, R: RpmbPort + Drop, L: StoreName, E: Ent
     requires fits { found.now.handle.position + length bytes ≤ 1044480 }
     requires guarded { SlotInvariant L.store slot.old }
     requires file { slot.old.number ≡ found.now.held.entry.file }
-    requires key { tsk.now ≡ object_key L.store.keys found.now.held.entry.app }
+    requires keyed { storage_key.now ≡ ssk L.store.keys.huk L.store.keys.chip }
     ensures served { IsServedOrNot L.store gate.old gate.new session.old session.new slot.old.number (Call.Write handle bytes) result }
     ensures kind { IfOk result (λ answer. IsNotDone answer.reply) }
     ensures cause { IfOk result (λ answer. HasToldCause slot.old.file slot.new.file slot.old.number answer.reply) }
@@ -204,15 +205,15 @@ pub fn write_spent<F: StoreFile + Drop, R: RpmbPort + Drop, L: StoreName, E: Ent
     let entry = found.held.entry;
     catch_up_entry(gate, slot, session, &entry);
     let start = found.handle.position;
-    let reply = check_write_object::<F, L>(alloc, slot, &entry, tsk, start, bytes.as_slice())?;
+    let reply = check_write_object::<F, L>(alloc, slot, &entry, storage_key, start, bytes.as_slice())?;
     let (kept, told) = twice(reply);
     let call = Call::Write { handle, bytes };
     Ok(tell(gate, slot, session, call, kept, told))
 }
 
 /// Writes these bytes, of which there are some, from the handle's position on, and advances the position by as many. `found` is what the
-/// rules found of the handle, whose session was shown the history. `tsk` is the key of the entry's application. Where the card's counter is at
-/// its end the blocks are read that the write needs, nothing is drawn or written, and that is told.
+/// rules found of the handle, whose session was shown the history. `storage_key` is the key that the applications' keys come from. Where the
+/// card's counter is at its end the blocks are read that the write needs, nothing is drawn or written, and that is told.
 ///
 /// # Errors
 ///
@@ -223,7 +224,7 @@ pub fn write<F: StoreFile + Drop, R: RpmbPort + Drop, L: StoreName, E: Entropy>(
     slot: &mut GuardedSlot<F, L>,
     session: &mut Session<E>,
     found: &OpenObject,
-    tsk: &[u8; 32],
+    storage_key: &SecretKey,
     handle: u32,
     bytes: &[u8],
 ) -> Result<PlacedReply, NoMemory>
@@ -235,7 +236,7 @@ pub fn write<F: StoreFile + Drop, R: RpmbPort + Drop, L: StoreName, E: Entropy>(
     requires found { IsRightful gate.old.gate.dir.dir.entries session.old.state handle write_bit found.now }
     requires some { (length bytes.now == 0) ≡ false }
     requires file { slot.old.number ≡ found.now.held.entry.file }
-    requires key { tsk.now ≡ object_key L.store.keys found.now.held.entry.app }
+    requires keyed { storage_key.now ≡ ssk L.store.keys.huk L.store.keys.chip }
     ensures changed { IsChangedOrNot F.state R.state (E.is_reliable session.old.entropy) (E.faults session.old.entropy) (E.faults session.new.entropy)
         L.store gate.old gate.new slot.old slot.new session.old session.new (Call.Write handle bytes.now) found.now.held
         (max found.now.held.entry.size (found.now.handle.position + length bytes.now)) result }
@@ -265,7 +266,7 @@ pub fn write<F: StoreFile + Drop, R: RpmbPort + Drop, L: StoreName, E: Entropy>(
             &mut slot.slot,
             session,
             found,
-            tsk,
+            storage_key,
             handle,
             kept,
         );
@@ -277,7 +278,7 @@ pub fn write<F: StoreFile + Drop, R: RpmbPort + Drop, L: StoreName, E: Entropy>(
         &mut slot.slot,
         entropy,
         &entry,
-        tsk,
+        storage_key,
         start,
         bytes,
     )?;

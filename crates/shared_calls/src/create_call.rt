@@ -22,7 +22,7 @@ use crate::gate_lock::spin_then_lock;
 use crate::validation::Validation;
 use crate::{DevicesName, SharedGate};
 use call_rules::{Decision, NewPlace};
-use hmac_keys::tsk;
+use hmac_keys::{SecretKey, tsk, wipe};
 use node_image::RootRef;
 use rpmb_card::RpmbPort;
 use serial_calls::{
@@ -190,7 +190,7 @@ fn make_slot<F: StoreFile + Drop, L: StoreName + DevicesName, E: Entropy>(
     alloc: Global,
     counter: u32,
     slot: &mut Slot<F>,
-    storage_key: &[u8; 32],
+    storage_key: &SecretKey,
     session: &mut Session<E>,
     attributes: &Bytes,
     bytes: &Bytes,
@@ -207,8 +207,11 @@ fn make_slot<F: StoreFile + Drop, L: StoreName + DevicesName, E: Entropy>(
     ensures kept { MatchResult result (λ made. KeepsSlot L.devices slot.new (told_made slot.new.number made)) (λ none. KeepsSlot L.devices slot.new []) }
     ensures drawn { IfOk result (CarriesMade (E.faults session.old.entropy) (E.faults session.new.entropy)) }
 {
-    let key = tsk(storage_key, &session.app().bytes());
-    make_unless_spent::<F, L, E>(alloc, counter, slot, session, &key, attributes, bytes)
+    let mut key = tsk(storage_key, &session.app().bytes());
+    let made =
+        make_unless_spent::<F, L, E>(alloc, counter, slot, session, &key, attributes, bytes);
+    wipe(&mut key);
+    made
 }
 
 // Whether what making the object gave may be told at that counter. That the counter is at its end is told only while it is.
@@ -309,7 +312,7 @@ fn attempt_with_slot<
     mut first: MutexGuard<'_, SharedGate<F, R, L>>,
     gate: &Mutex<SharedGate<F, R, L>>,
     slot: &mut Slot<F>,
-    storage_key: &[u8; 32],
+    storage_key: &SecretKey,
     session: &mut Session<E>,
     call: &Call,
 ) -> Result<Option<PlacedReply>, NoMemory>
@@ -373,7 +376,7 @@ pub(crate) fn attempt<
     first: MutexGuard<'_, SharedGate<F, R, L>>,
     gate: &Mutex<SharedGate<F, R, L>>,
     slot: &mut GuardedSlot<F, L>,
-    storage_key: &[u8; 32],
+    storage_key: &SecretKey,
     session: &mut Session<E>,
     call: &Call,
 ) -> Result<Option<PlacedReply>, NoMemory>

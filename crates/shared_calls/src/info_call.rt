@@ -22,7 +22,7 @@ use crate::slot_catch_up::{catch_up_held, is_loaded};
 use crate::validation::Validation;
 use crate::{DevicesName, SharedGate};
 use call_rules::{Decision, OpenObject};
-use hmac_keys::tsk;
+use hmac_keys::SecretKey;
 use rpmb_card::RpmbPort;
 use serial_calls::{
     GuardedSlot, PlacedReply, Session, StoreName, answer_info, answer_ruled, describe_live,
@@ -163,7 +163,7 @@ fn validate_last<F: StoreFile + Drop, R: RpmbPort + Drop, L: StoreName + Devices
 fn describe_slot<F: StoreFile + Drop, L: StoreName + DevicesName>(
     alloc: Global,
     slot: &mut GuardedSlot<F, L>,
-    storage_key: &[u8; 32],
+    storage_key: &SecretKey,
     found: &OpenObject,
 ) -> Result<Reply, NoMemory>
     requires loads { MayLoad slot.old found.now.held.entry }
@@ -172,8 +172,7 @@ fn describe_slot<F: StoreFile + Drop, L: StoreName + DevicesName>(
     ensures described { IfOk result (HasDescribed L.store slot.new found.now.handle) }
     ensures kept { MatchResult result (λ reply. KeepsSlot L.devices slot.new (told_of (File slot.new.number) reply)) (λ none. KeepsSlot L.devices slot.new []) }
 {
-    let key = tsk(storage_key, &found.held.entry.app.bytes());
-    describe_object::<F, L>(alloc, &mut slot.slot, &found.held.entry, &key, found.handle)
+    describe_object::<F, L>(alloc, &mut slot.slot, &found.held.entry, storage_key, found.handle)
 }
 
 // Tells what is known of the slot's object, which is loaded. The gate's lock is not taken.
@@ -256,7 +255,7 @@ pub(crate) fn attempt<
     mut first: MutexGuard<'_, SharedGate<F, R, L>>,
     gate: &Mutex<SharedGate<F, R, L>>,
     slot: &mut GuardedSlot<F, L>,
-    storage_key: &[u8; 32],
+    storage_key: &SecretKey,
     session: &mut Session<E>,
     handle: u32,
 ) -> Result<Option<PlacedReply>, NoMemory>

@@ -19,7 +19,7 @@ use crate::validation::Validation;
 use crate::{DevicesName, SharedGate};
 use call_rules::Decision;
 use dir_index::Held;
-use hmac_keys::tsk;
+use hmac_keys::SecretKey;
 use rpmb_card::RpmbPort;
 use serial_calls::{
     GuardedSlot, PlacedReply, Session, StoreName, answer_open, answer_ruled, load_or_reply,
@@ -156,7 +156,7 @@ fn validate_last<F: StoreFile + Drop, R: RpmbPort + Drop, L: StoreName + Devices
 fn load_slot<F: StoreFile + Drop, L: StoreName + DevicesName>(
     alloc: Global,
     slot: &mut GuardedSlot<F, L>,
-    storage_key: &[u8; 32],
+    storage_key: &SecretKey,
     held: &Held,
 ) -> Result<Option<Reply>, NoMemory>
     requires loads { MayLoad slot.old held.now.entry }
@@ -165,8 +165,7 @@ fn load_slot<F: StoreFile + Drop, L: StoreName + DevicesName>(
     ensures loaded { IfOk result (HasLoaded L.store slot.new) }
     ensures kept { MatchResult result (λ unloaded. KeepsSlot L.devices slot.new (told_if slot.new.number unloaded)) (λ none. KeepsSlot L.devices slot.new []) }
 {
-    let key = tsk(storage_key, &held.entry.app.bytes());
-    load_or_reply::<F, L>(alloc, &mut slot.slot, &held.entry, &key)
+    load_or_reply::<F, L>(alloc, &mut slot.slot, &held.entry, storage_key)
 }
 
 /// An attempt of an Open, with the lock of the slot of its object's file: two validations at the gate, and between them the object is loaded where it
@@ -187,7 +186,7 @@ pub(crate) fn attempt<
     mut first: MutexGuard<'_, SharedGate<F, R, L>>,
     gate: &Mutex<SharedGate<F, R, L>>,
     slot: &mut GuardedSlot<F, L>,
-    storage_key: &[u8; 32],
+    storage_key: &SecretKey,
     session: &mut Session<E>,
     id: ObjectId,
     flags: Flags,

@@ -23,7 +23,7 @@ use crate::slot_catch_up::{catch_up_held, is_loaded};
 use crate::validation::Validation;
 use crate::{DevicesName, SharedGate};
 use call_rules::{Decision, OpenObject};
-use hmac_keys::tsk;
+use hmac_keys::SecretKey;
 use rpmb_card::RpmbPort;
 use serial_calls::{
     GuardedSlot, PlacedReply, Session, StoreName, answer_read, answer_ruled, read_live, read_object,
@@ -167,7 +167,7 @@ fn validate_last<F: StoreFile + Drop, R: RpmbPort + Drop, L: StoreName + Devices
 fn read_slot<F: StoreFile + Drop, L: StoreName + DevicesName>(
     alloc: Global,
     slot: &mut GuardedSlot<F, L>,
-    storage_key: &[u8; 32],
+    storage_key: &SecretKey,
     found: &OpenObject,
     size: u32,
 ) -> Result<Reply, NoMemory>
@@ -177,12 +177,11 @@ fn read_slot<F: StoreFile + Drop, L: StoreName + DevicesName>(
     ensures read { IfOk result (HasRead L.store slot.new found.now.handle.position size) }
     ensures kept { MatchResult result (λ reply. KeepsSlot L.devices slot.new (told_of (File slot.new.number) reply)) (λ none. KeepsSlot L.devices slot.new []) }
 {
-    let key = tsk(storage_key, &found.held.entry.app.bytes());
     read_object::<F, L>(
         alloc,
         &mut slot.slot,
         &found.held.entry,
-        &key,
+        storage_key,
         found.handle.position,
         size,
     )
@@ -271,7 +270,7 @@ pub(crate) fn attempt<
     mut first: MutexGuard<'_, SharedGate<F, R, L>>,
     gate: &Mutex<SharedGate<F, R, L>>,
     slot: &mut GuardedSlot<F, L>,
-    storage_key: &[u8; 32],
+    storage_key: &SecretKey,
     session: &mut Session<E>,
     handle: u32,
     size: u32,

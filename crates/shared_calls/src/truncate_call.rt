@@ -25,7 +25,7 @@ use crate::slot_catch_up::catch_up_held;
 use crate::validation::Validation;
 use crate::{DevicesName, SharedGate};
 use call_rules::{Decision, OpenObject, truncate_refusal};
-use hmac_keys::tsk;
+use hmac_keys::SecretKey;
 use rpmb_card::RpmbPort;
 use serial_calls::{
     GuardedSlot, PlacedReply, Session, Slot, Staged, StoreName, answer_ruled, answer_truncate,
@@ -105,7 +105,7 @@ fn answer_spent<F: StoreFile + Drop, R: RpmbPort + Drop, L: StoreName + DevicesN
     alloc: Global,
     gate: &mut SharedGate<F, R, L>,
     slot: &mut GuardedSlot<F, L>,
-    storage_key: &[u8; 32],
+    storage_key: &SecretKey,
     session: &mut Session<E>,
     found: &OpenObject,
     handle: u32,
@@ -127,14 +127,13 @@ fn answer_spent<F: StoreFile + Drop, R: RpmbPort + Drop, L: StoreName + DevicesN
     if entry.file != slot.number() {
         return Ok(None);
     }
-    let key = tsk(storage_key, &entry.app.bytes());
     let answer = truncate_spent(
         alloc,
         &mut gate.gate,
         &mut slot.slot,
         session,
         found,
-        &key,
+        storage_key,
         handle,
         size,
     )?;
@@ -147,7 +146,7 @@ fn validate_first<F: StoreFile + Drop, R: RpmbPort + Drop, L: StoreName + Device
     alloc: Global,
     gate: &mut SharedGate<F, R, L>,
     slot: &mut GuardedSlot<F, L>,
-    storage_key: &[u8; 32],
+    storage_key: &SecretKey,
     session: &mut Session<E>,
     handle: u32,
     size: u32,
@@ -208,7 +207,7 @@ fn validate_first<F: StoreFile + Drop, R: RpmbPort + Drop, L: StoreName + Device
 fn stage_slot<F: StoreFile + Drop, L: StoreName + DevicesName, E: Entropy>(
     alloc: Global,
     slot: &mut Slot<F>,
-    storage_key: &[u8; 32],
+    storage_key: &SecretKey,
     session: &mut Session<E>,
     found: &OpenObject,
     size: u32,
@@ -227,9 +226,8 @@ fn stage_slot<F: StoreFile + Drop, L: StoreName + DevicesName, E: Entropy>(
     ensures drawn { IfOk result (CarriesStaged (E.faults session.old.entropy) (E.faults session.new.entropy)) }
 {
     let entry = found.held.entry;
-    let key = tsk(storage_key, &entry.app.bytes());
     let entropy = session.entropy_mut();
-    truncate_object::<F, L, E>(alloc, slot, entropy, &entry, &key, size)
+    truncate_object::<F, L, E>(alloc, slot, entropy, &entry, storage_key, size)
 }
 
 // What a Truncate finds at the gate again, where its object has another size still, and lies in that file.
@@ -340,7 +338,7 @@ fn truncate_slot<
     alloc: Global,
     gate: &Mutex<SharedGate<F, R, L>>,
     slot: &mut Slot<F>,
-    storage_key: &[u8; 32],
+    storage_key: &SecretKey,
     session: &mut Session<E>,
     found: &OpenObject,
     handle: u32,
@@ -388,7 +386,7 @@ pub(crate) fn attempt<
     mut first: MutexGuard<'_, SharedGate<F, R, L>>,
     gate: &Mutex<SharedGate<F, R, L>>,
     slot: &mut GuardedSlot<F, L>,
-    storage_key: &[u8; 32],
+    storage_key: &SecretKey,
     session: &mut Session<E>,
     handle: u32,
     size: u32,

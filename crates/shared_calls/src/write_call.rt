@@ -25,7 +25,7 @@ use crate::slot_catch_up::catch_up_held;
 use crate::validation::Validation;
 use crate::{DevicesName, SharedGate};
 use call_rules::{Decision, OpenObject, write_refusal};
-use hmac_keys::tsk;
+use hmac_keys::SecretKey;
 use rpmb_card::RpmbPort;
 use serial_calls::{
     GuardedSlot, PlacedReply, Session, Slot, Staged, StoreName, answer_ruled, answer_write,
@@ -107,7 +107,7 @@ fn answer_spent<F: StoreFile + Drop, R: RpmbPort + Drop, L: StoreName + DevicesN
     alloc: Global,
     gate: &mut SharedGate<F, R, L>,
     slot: &mut GuardedSlot<F, L>,
-    storage_key: &[u8; 32],
+    storage_key: &SecretKey,
     session: &mut Session<E>,
     found: &OpenObject,
     handle: u32,
@@ -129,14 +129,13 @@ fn answer_spent<F: StoreFile + Drop, R: RpmbPort + Drop, L: StoreName + DevicesN
     if entry.file != slot.number() {
         return Ok(None);
     }
-    let key = tsk(storage_key, &entry.app.bytes());
     let answer = write_spent(
         alloc,
         &mut gate.gate,
         &mut slot.slot,
         session,
         found,
-        &key,
+        storage_key,
         handle,
         bytes,
     )?;
@@ -149,7 +148,7 @@ fn validate_first<F: StoreFile + Drop, R: RpmbPort + Drop, L: StoreName + Device
     alloc: Global,
     gate: &mut SharedGate<F, R, L>,
     slot: &mut GuardedSlot<F, L>,
-    storage_key: &[u8; 32],
+    storage_key: &SecretKey,
     session: &mut Session<E>,
     call: &Call,
     handle: u32,
@@ -207,7 +206,7 @@ fn validate_first<F: StoreFile + Drop, R: RpmbPort + Drop, L: StoreName + Device
 fn stage_slot<F: StoreFile + Drop, L: StoreName + DevicesName, E: Entropy>(
     alloc: Global,
     slot: &mut Slot<F>,
-    storage_key: &[u8; 32],
+    storage_key: &SecretKey,
     session: &mut Session<E>,
     found: &OpenObject,
     bytes: &Bytes,
@@ -226,14 +225,13 @@ fn stage_slot<F: StoreFile + Drop, L: StoreName + DevicesName, E: Entropy>(
     ensures drawn { IfOk result (CarriesStaged (E.faults session.old.entropy) (E.faults session.new.entropy)) }
 {
     let entry = found.held.entry;
-    let key = tsk(storage_key, &entry.app.bytes());
     let entropy = session.entropy_mut();
     write_object::<F, L, E>(
         alloc,
         slot,
         entropy,
         &entry,
-        &key,
+        storage_key,
         found.handle.position,
         bytes.as_slice(),
     )
@@ -355,7 +353,7 @@ fn write_slot<
     alloc: Global,
     gate: &Mutex<SharedGate<F, R, L>>,
     slot: &mut Slot<F>,
-    storage_key: &[u8; 32],
+    storage_key: &SecretKey,
     session: &mut Session<E>,
     found: &OpenObject,
     call: &Call,
@@ -409,7 +407,7 @@ pub(crate) fn attempt<
     mut first: MutexGuard<'_, SharedGate<F, R, L>>,
     gate: &Mutex<SharedGate<F, R, L>>,
     slot: &mut GuardedSlot<F, L>,
-    storage_key: &[u8; 32],
+    storage_key: &SecretKey,
     session: &mut Session<E>,
     call: &Call,
     handle: u32,

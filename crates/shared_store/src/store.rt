@@ -8,6 +8,7 @@ ghost use Rattle.shared_calls.specs.SharedCounts.{CarriesDraws};
 ghost use Rattle.shared_calls.specs.Attempts.{EndsCall, EndsAttempt};
 ghost use Rattle.shared_calls.specs.Devices.{DrawsOn};
 
+use hmac_keys::SecretKey;
 use rpmb_card::RpmbPort;
 use shared_calls::{
     DevicesName, PlacedReply, Session, SharedGate, SharedSlot, StoreName, Validation, attempt,
@@ -24,7 +25,7 @@ pub struct SharedStore<F: StoreFile + Drop, R: RpmbPort + Drop, L: StoreName + D
     gate: Mutex<SharedGate<F, R, L>>,
     // File 1 first.
     slots: Vec<Mutex<SharedSlot<F, L>>>,
-    storage_key: [u8; 32],
+    storage_key: SecretKey,
     ghost keyed: { storage_key ≡ ssk L.store.keys.huk L.store.keys.chip },
     ghost few: { length L.store.mounted.applications ≤ 16 },
     ghost many: { vec_len slots ≡ last_file },
@@ -57,7 +58,7 @@ impl<F: StoreFile + Drop, R: RpmbPort + Drop, L: StoreName + DevicesName> Shared
     pub fn new(
         gate: SharedGate<F, R, L>,
         slots: Vec<Mutex<SharedSlot<F, L>>>,
-        storage_key: [u8; 32],
+        storage_key: SecretKey,
     ) -> SharedStore<F, R, L>
         requires keyed { storage_key ≡ ssk L.store.keys.huk L.store.keys.chip }
         requires few { length L.store.mounted.applications ≤ 16 }

@@ -15,10 +15,12 @@ use std::alloc::Global;
 use store_commit::root_block;
 use tee_ports::ListEntropy;
 
-const KEYS: Keys = Keys {
-    huk: [7; 16],
-    chip: [1; 32],
-};
+fn device_keys() -> Keys {
+    Keys {
+        huk: [7; 16],
+        chip: [1; 32],
+    }
+}
 
 /// How many blocks of data the object has.
 pub const BLOCKS: u8 = 255;
@@ -36,7 +38,7 @@ pub struct Certified {
 
 // The key of the object's application.
 fn object_key() -> [u8; 32] {
-    tsk(&ssk(&KEYS), &APP)
+    tsk(&ssk(&device_keys()), &APP)
 }
 
 // The directory's first page, with one entry.
@@ -55,7 +57,7 @@ fn directory_of(alloc: Global, entry: &DirEntry) -> anyhow::Result<(Tree<MemFile
         alloc,
         MemFile::new(alloc),
         FORMAT,
-        &dir_tsk(&ssk(&KEYS)),
+        &dir_tsk(&ssk(&device_keys())),
         32_768,
         &pages,
         &mut entropy,
@@ -105,7 +107,7 @@ impl Certified {
 
     /// Checks the certificate, and gives how many bytes of data the object then has.
     pub fn check(&self, alloc: Global) -> anyhow::Result<usize> {
-        match check(alloc, &self.block, &KEYS, self.certificate.as_slice()) {
+        match check(alloc, &self.block, &device_keys(), self.certificate.as_slice()) {
             Ok(listed) => Ok(listed.bytes.len()),
             Err(_) => bail!("not accepted"),
         }

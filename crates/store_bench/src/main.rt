@@ -9,10 +9,13 @@ use std::time::Instant;
 
 mod certificates;
 mod ciphers;
+mod reads;
+mod secrets;
 mod trees;
 
 use certificates::Certified;
 use ciphers::{BYTES_A_ROUND, Work};
+use reads::serve_reads;
 use trees::{TreeBench, commits};
 
 /// How many times a cipher's work is done for its digest, and for its time.
@@ -27,6 +30,11 @@ const SIZES: [u8; 3] = [1, 16, 255];
 const COUNTED_COMMITS: u32 = 2;
 
 const TIMED_COMMITS: u32 = 256;
+
+/// How many short reads are served, and how many for their time.
+const COUNTED_READS: u32 = 16;
+
+const TIMED_READS: u32 = 48_000;
 
 /// How many times a certificate is checked for its time.
 const CHECKS: u32 = 16;
@@ -45,6 +53,13 @@ fn time_work(rt: &HostRuntime, work: Work) -> anyhow::Result<()> {
     let micros = start.elapsed(rt)?.as_micros().max(1);
     let bytes = u128::from(TIMED_ROUNDS) * u128::from(BYTES_A_ROUND);
     eprintln!(rt; "{} {} MB/s {digest}", work.name(), bytes / micros)?;
+    Ok(())
+}
+
+/// Prints a digest of the work on a hundred secrets.
+fn print_secrets(rt: &impl Print, alloc: Global) -> anyhow::Result<()> {
+    let digest = hex::encode(alloc, &secrets::digest())?;
+    println!(rt; "a hundred secrets {digest}")?;
     Ok(())
 }
 
@@ -93,6 +108,22 @@ fn time_certificate(rt: &HostRuntime) -> anyhow::Result<()> {
     Ok(())
 }
 
+/// Prints how many events short reads made.
+fn print_reads(rt: &impl Print, alloc: Global) -> anyhow::Result<()> {
+    let events = serve_reads(alloc, COUNTED_READS)?;
+    println!(rt; "{COUNTED_READS} short reads: {events} events")?;
+    Ok(())
+}
+
+/// Reports how long a short read takes with the seek before it, on one thread.
+fn time_reads(rt: &HostRuntime) -> anyhow::Result<()> {
+    let start = Instant::now(rt)?;
+    serve_reads(rt.alloc(), TIMED_READS)?;
+    let nanos = start.elapsed(rt)?.as_nanos() / u128::from(TIMED_READS);
+    eprintln!(rt; "short read: {nanos} ns")?;
+    Ok(())
+}
+
 /// Whether times are asked for: by the argument `time`, and no other is taken.
 fn is_timed(rt: &HostRuntime) -> anyhow::Result<bool> {
     let mut timed = false;
@@ -113,14 +144,17 @@ fn main(rt: HostRuntime) -> anyhow::Result<()> {
             time_work(&rt, work)?;
         }
     }
+    print_secrets(&rt, rt.alloc())?;
     for blocks in SIZES {
         print_commit(&rt, rt.alloc(), blocks)?;
         if timed {
             time_commits(&rt, blocks)?;
         }
     }
+    print_reads(&rt, rt.alloc())?;
     print_certificate(&rt, rt.alloc())?;
     if timed {
+        time_reads(&rt)?;
         time_certificate(&rt)?;
     }
     Ok(())
