@@ -1,1 +1,2 @@
+pub mod EqualBytes
 pub mod Fields

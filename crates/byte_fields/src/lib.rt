@@ -1,8 +1,8 @@
-//! Fields of fixed width among bytes: a row of bytes is cut into its fields, and put together from them. Secrets among
-//! bytes: they are overwritten where they lie.
+//! Fields of fixed width among bytes: a row of bytes is cut into its fields, and put together from them. Fields that are
+//! secret are compared by `equal_bytes`, and overwritten by `wipe`.
 #![tactic(auto)]
 
-ghost use Rattle.std.specs.Prelude.{◌≡◌, ◌≤◌, ◌+◌, length, replicate};
+ghost use Rattle.std.specs.Prelude.{◌≡◌, ◌≤◌, ◌+◌, length, replicate, bytes_eq};
 ghost use Rattle.byte_fields.specs.Field.{field, with_field};
 
 use std::hint::spin_loop;
@@ -36,4 +36,18 @@ pub fn wipe(secrets: &mut [u8])
 {
     secrets.fill(0);
     spin_loop();
+}
+
+/// Whether two fields are equal. MACs, tags, keys and nonces are compared by this alone.
+///
+/// It looks at every byte: a comparison that ends at the first difference tells by its time where that
+/// is, and so gives a MAC away byte by byte. No clause can say how long a call takes.
+pub fn equal_bytes<const N: usize>(a: &[u8; N], b: &[u8; N]) -> bool
+    ensures { result ≡ bytes_eq a.now b.now }
+{
+    let mut differ = 0u8;
+    for i in 0..N {
+        differ |= a[i] ^ b[i];
+    }
+    differ == 0
 }

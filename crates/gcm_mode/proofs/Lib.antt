@@ -3,3 +3,4 @@ pub mod Stream
 pub mod WholeBlocks
 pub mod Twice
 pub mod Evidence
+pub mod TagWidth

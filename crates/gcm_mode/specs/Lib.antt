@@ -1,3 +1,4 @@
 pub mod ByteBlocks
+pub mod ComputedTags
 pub mod CounterMode
 pub mod Gcm

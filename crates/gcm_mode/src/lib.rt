@@ -9,10 +9,13 @@ ghost use Rattle.aes_block.specs.Cipher.{cipher};
 ghost use Rattle.gcm_mode.specs.Gcm.{gcm_tag, gcm_text};
 
 use aes_block::Aes128;
+use byte_fields::equal_bytes;
+pub use computed_tag::ComputedTag;
 use counter_mode::{apply_stream, inc32};
 use ghash_field::Ghash;
 use tags::{hash_subkey, pre_counter_block, tag_of};
 
+mod computed_tag;
 mod counter_mode;
 mod hash_input;
 mod tags;
@@ -22,8 +25,8 @@ mod tags;
 pub struct BadTag {
     /// The tag that was given.
     pub want: [u8; 16],
-    /// The tag that was computed.
-    pub found: [u8; 16],
+    /// The tag that was computed. It is shown to nobody.
+    pub found: ComputedTag,
 }
 
 /// Enciphers `text` in place, and gives the tag of the additional data and the ciphertext (7.1).
@@ -45,7 +48,7 @@ pub fn seal(key: &Aes128, iv: &[u8], aad: &[u8], text: &mut [u8]) -> [u8; 16]
 }
 
 /// Deciphers `text` in place where `tag` is the tag of the additional data and the ciphertext (7.2).
-/// Where it is not, `text` stays as it was, and both tags are given.
+/// Where it is not, `text` stays as it was, and both tags are given, the computed one unreadable.
 pub fn open_text(
     key: &Aes128,
     iv: &[u8],
@@ -68,8 +71,11 @@ pub fn open_text(
     hash.begin(hash_subkey(key));
     let first = pre_counter_block(&mut hash, iv);
     let found = tag_of(key, &mut hash, &first, aad, text);
-    if found != *tag {
-        return Err(BadTag { want: *tag, found });
+    if !equal_bytes(&found, tag) {
+        return Err(BadTag {
+            want: *tag,
+            found: ComputedTag::new(found),
+        });
     }
     let mut counter = first;
     inc32(&mut counter);

@@ -28,3 +28,4 @@ pub mod Made
 pub mod CopiedParts
 pub mod CopyOpens
 pub mod CopyRuns
+pub mod TagWidths

@@ -1,3 +1,4 @@
+pub mod Untagged
 pub mod Opening
 pub mod Pages
 pub mod Standing

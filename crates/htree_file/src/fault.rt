@@ -1,6 +1,7 @@
 // Why a tree is not read or made.
 ghost use Rattle.std.specs.Prelude.{◌≡◌};
 
+use gcm_mode::ComputedTag;
 use tee_ports::{Failed, NoMemory, StoreFile};
 
 /// The bytes of a block, deciphered or enciphered.
@@ -26,11 +27,11 @@ pub enum TreeFault {
         want: [u8; 32],
         found: [u8; 32],
     },
-    /// The tag of a block is not its node's: the node's tag, and the computed one.
+    /// The tag of a block is not its node's: the node's tag, and the computed one, which is shown to nobody.
     BadTag {
         block: u32,
         want: [u8; 16],
-        found: [u8; 16],
+        found: ComputedTag,
     },
     /// A call of the file failed: its count of faults.
     Failed {
@@ -49,6 +50,24 @@ pub enum TreeFault {
 pub struct Broken<F: StoreFile> {
     pub file: F,
     pub fault: TreeFault,
+}
+
+impl TreeFault {
+    ghost use Rattle.htree_file.specs.Untagged.{untagged_tree};
+
+    /// The fault without the computed tag, for who must not learn it.
+    pub fn without_computed_tag(self) -> TreeFault
+        ensures { result ≡ untagged_tree self }
+    {
+        match self {
+            TreeFault::BadTag { block, want, .. } => TreeFault::BadTag {
+                block,
+                want,
+                found: ComputedTag::none(),
+            },
+            fault => fault,
+        }
+    }
 }
 
 impl From<NoMemory> for TreeFault {

@@ -29,6 +29,7 @@ mod write_set;
 pub use change::BlockChange;
 pub use copying::copy_tree;
 pub use fault::{Broken, Page, TreeFault};
+pub use gcm_mode::ComputedTag;
 pub use laws::{firm_opens_alike, read_keeps_firm, selection_names_tree};
 pub use opening::check_hashes;
 pub use pages::open_page;

@@ -1,7 +1,8 @@
 // Pages and their blocks.
-ghost use Rattle.std.specs.Prelude.{◌≡◌, List, ℕ, length, true, MatchResult, Some, None};
+ghost use Rattle.std.specs.Prelude.{◌≡◌, List, ℕ, length, true, IfErr, MatchResult, Some, None};
 ghost use Rattle.aes_block.specs.Cipher.{cipher};
 ghost use Rattle.gcm_mode.specs.Gcm.{gcm_tag, gcm_text};
+ghost use Rattle.htree_file.specs.Answers.{HasFaultWidths};
 ghost use Rattle.htree_file.specs.Pages.{block_aad, is_block, page_of, tag_of};
 ghost use Rattle.htree_file.specs.declared.fault.TreeFault.TheVariants.{BadTag};
 
@@ -24,7 +25,8 @@ fn block_aad(head: &Head, block: u32) -> [u8; 20]
 ///
 /// # Errors
 ///
-/// `BadTag` with both tags where it has not; the page then stays.
+/// `BadTag` with both tags where it has not, the computed one unreadable; the page then stays.
+#[tactic(auto, using(crate::proofs::TagWidths::block_tag_width))]
 pub fn open_page(
     key: &Aes128,
     head: &Head,
@@ -37,6 +39,7 @@ pub fn open_page(
         (λ fault. (page_of key.now head.now node.now block page.old ≡ None) × (page.new ≡ page.old)
         × (fault ≡ BadTag block node.now.tag (tag_of key.now head.now node.now block page.old))) }
     ensures block { is_block page.old ≡ true }
+    ensures widths { IfErr result HasFaultWidths }
 {
     let aad = block_aad(head, block);
     match open_text(key, &node.iv, &aad, page, &node.tag) {

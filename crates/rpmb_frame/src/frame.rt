@@ -6,7 +6,7 @@ ghost use Rattle.rpmb_frame.specs.Layout.{frame_bytes, frame_of};
 use byte_fields::{field, put};
 
 /// The fields of a frame, in their order in its 512 bytes.
-#[derive(Clone, Copy, PartialEq, Eq, Debug)]
+#[derive(Clone, Copy, Debug)]
 pub struct Frame {
     /// Bytes 0 to 195, without a meaning.
     pub stuff: [u8; 196],

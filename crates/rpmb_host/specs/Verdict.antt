@@ -39,7 +39,7 @@ fields_verdict wanted f =
 abbrev pub verdict : (key : List ℕ) → Wanted → (bytes : List ℕ) → Result Frame HostFault
 verdict key wanted bytes =
     if bytes_eq (carried_mac bytes) (mac_of key bytes) then fields_verdict wanted (frame_of bytes)
-    else Err (BadFrame (Mac (mac_of key bytes) (carried_mac bytes)))
+    else Err (BadFrame Mac)
 
 -- a call's answer came of a frame: an exchange neither failed nor was left out
 abbrev pub is_of_frame : {A : Type 0} → Result A HostFault → Bool

@@ -4,6 +4,7 @@ ghost use Rattle.std.specs.Prelude.{◌≡◌, true};
 ghost use Rattle.rpmb_host.specs.Verdict.{fields_verdict, is_of_frame, place_verdict, verdict};
 
 use crate::HostFault;
+use byte_fields::equal_bytes;
 use rpmb_frame::{Frame, verify};
 use tee_types::FrameFault;
 
@@ -39,7 +40,7 @@ fn judge_fields(wanted: &Wanted, frame: &Frame) -> Result<Frame, HostFault>
     ensures of_frame { is_of_frame result ≡ true }
 {
     if let Some(want) = wanted.nonce
-        && frame.nonce != want
+        && !equal_bytes(&frame.nonce, &want)
     {
         return Err(HostFault::BadFrame(FrameFault::Nonce {
             want,

@@ -46,16 +46,12 @@ pub enum Device {
     Entropy,
 }
 
-/// The first field of an answer of the card that isn't as it was wanted, with both values.
+/// The first field of an answer of the card that isn't as it was wanted, with both values. Of the MAC
+/// none is told: that which the key gives of a frame signs this frame.
 #[derive(Clone, Copy, Debug, PartialEq, Eq)]
 pub enum FrameFault {
     /// The MAC of the frame.
-    Mac {
-        /// The MAC under the host's key.
-        want: [u8; 32],
-        /// The MAC that came.
-        found: [u8; 32],
-    },
+    Mac,
     /// The nonce.
     Nonce {
         /// The nonce that was sent.

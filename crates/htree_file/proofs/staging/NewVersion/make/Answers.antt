@@ -1,5 +1,6 @@
 use Rattle.std.proofs.Common.{◌≡◌, ℕ, ◌-◌, ◌<◌, ◌≤◌, List, ◌++◌, length, get_or, take, drop, length-take, true, sym, ◌∙◌, ap, subst, arith}
 use Rattle.std.proofs.lemmas.List.{get_or-take, take_at}
+use Rattle.std.proofs.lemmas.Result.{err_from_is_err_and}
 use Rattle.disk_model.specs.State.{FileState}
 use Rattle.disk_model.specs.Calls.{Known}
 use Rattle.disk_model.specs.Keeps.{Anywhere, Keeps}
@@ -10,10 +11,13 @@ use Rattle.node_image.specs.declared.node.RootRef.{RootRef}
 use Rattle.node_image.specs.Tables.{at_node, no_node}
 use Rattle.node_image.specs.Parts.{layout_of}
 use Rattle.tree_paths.specs.Paths.{holds}
+use Rattle.htree_file.specs.Answers.{FileFailed}
 use Rattle.htree_file.specs.Changes.{IsChanged, changes_of}
 use Rattle.htree_file.specs.Making.{Nowhere}
 use Rattle.htree_file.specs.Staging.{IsWritten}
 use Rattle.htree_file.specs.Stages.{IsMade}
+use Rattle.htree_file.specs.declared.fault.TreeFault.TheVariants.{Failed}
+use Rattle.htree_file.proofs.Causes.{fault_then}
 use Rattle.htree_file.proofs.ChangeLists.{changed_of}
 use Rattle.htree_file.proofs.Made.{is_made, made_on}
 use Rattle.htree_file.proofs.staging.NewVersion.make.Goals as goal
@@ -80,3 +84,16 @@ returns-clause-made g c =
 
 pub returns-clause-format : goal.returns-clause-format
 returns-clause-format g c = ap (λ (r : RootRef). r.format) c.in_ok-root.ensures.root
+
+pub returns-in_err-sync-clause-causes : goal.returns-in_err-sync-clause-causes
+returns-in_err-sync-clause-causes g c =
+    let p = err_from_is_err_and c.from_residual-in_err-sync.result c.from_residual-in_err-sync.ensures.1 in
+    let fails = c.in_err-sync.ensures.cause in
+    let failed : FileFailed (g.F.StoreFile.state c.write.new.file) (g.F.StoreFile.state c.sync.new.self) c.in_err-sync.field-0.0.count = record { rose = fails.rose; carried = fails.carried; calm = fails.calm } in
+    rw (p.1, p.2) record {
+      file = fault_then _ _ _ (Failed c.in_err-sync.field-0.0.count) c.write.ensures.writes.keeps.goes_on c.in_ok-root.ensures.cause failed;
+      drawn = c.in_ok-draw_vectors.ensures.cause;
+      lasts = c.draw_vectors.ensures.lasts;
+      reliable = λ was. tt;
+      kind = tt;
+    }
