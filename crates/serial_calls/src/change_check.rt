@@ -17,8 +17,8 @@ ghost use Rattle.call_steps.specs.SlotValues.{IsLive};
 
 use call_steps::{Slot, SlotFault, check_truncate, check_write, fault_reply, load_or_reply};
 use core_laws::StoreName;
-use hmac_keys::SecretKey;
 use dir_records::DirEntry;
+use hmac_keys::SecretKey;
 use std::alloc::Global;
 use tee_ports::StoreFile;
 use tee_types::{NoMemory, Reply};

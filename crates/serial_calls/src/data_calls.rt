@@ -96,5 +96,14 @@ pub(crate) fn truncate<F: StoreFile + Drop, R: RpmbPort + Drop, L: StoreName, E:
     };
     let place = place_of(&*gate, slots, &found.held);
     let slot = &mut slots[place];
-    crate::truncate(alloc, gate, slot, session, &found, storage_key, handle, size)
+    crate::truncate(
+        alloc,
+        gate,
+        slot,
+        session,
+        &found,
+        storage_key,
+        handle,
+        size,
+    )
 }

@@ -51,7 +51,16 @@ pub(crate) fn read<F: StoreFile + Drop, R: RpmbPort + Drop, L: StoreName, E: Ent
     };
     let place = place_of(&*gate, slots, &found.held);
     let slot = &mut slots[place];
-    call_steps::read(alloc, gate, slot, session, &found, storage_key, handle, size)
+    call_steps::read(
+        alloc,
+        gate,
+        slot,
+        session,
+        &found,
+        storage_key,
+        handle,
+        size,
+    )
 }
 
 /// TEE_GetObjectInfo1.

@@ -36,8 +36,8 @@ use call_steps::{
     load_or_reply, stage_truncate, tell, twice,
 };
 use core_laws::StoreName;
-use hmac_keys::SecretKey;
 use dir_records::DirEntry;
+use hmac_keys::SecretKey;
 use rpmb_card::RpmbPort;
 use std::alloc::Global;
 use tee_ports::{Entropy, StoreFile};
@@ -255,6 +255,13 @@ pub fn truncate<F: StoreFile + Drop, R: RpmbPort + Drop, L: StoreName, E: Entrop
     }
     catch_up_entry(gate, &mut slot.slot, session, &entry);
     let entropy = session.entropy_mut();
-    let staged = truncate_object::<F, L, E>(alloc, &mut slot.slot, entropy, &entry, storage_key, size)?;
+    let staged = truncate_object::<F, L, E>(
+        alloc,
+        &mut slot.slot,
+        entropy,
+        &entry,
+        storage_key,
+        size,
+    )?;
     Ok(answer_truncate(gate, &mut slot.slot, session, found, handle, size, staged))
 }

@@ -36,8 +36,8 @@ use call_steps::{
     load_or_reply, stage_write, tell, twice,
 };
 use core_laws::StoreName;
-use hmac_keys::SecretKey;
 use dir_records::DirEntry;
+use hmac_keys::SecretKey;
 use rpmb_card::RpmbPort;
 use std::alloc::Global;
 use store_model::Handle;
@@ -205,7 +205,14 @@ pub fn write_spent<F: StoreFile + Drop, R: RpmbPort + Drop, L: StoreName, E: Ent
     let entry = found.held.entry;
     catch_up_entry(gate, slot, session, &entry);
     let start = found.handle.position;
-    let reply = check_write_object::<F, L>(alloc, slot, &entry, storage_key, start, bytes.as_slice())?;
+    let reply = check_write_object::<F, L>(
+        alloc,
+        slot,
+        &entry,
+        storage_key,
+        start,
+        bytes.as_slice(),
+    )?;
     let (kept, told) = twice(reply);
     let call = Call::Write { handle, bytes };
     Ok(tell(gate, slot, session, call, kept, told))

@@ -208,8 +208,7 @@ fn make_slot<F: StoreFile + Drop, L: StoreName + DevicesName, E: Entropy>(
     ensures drawn { IfOk result (CarriesMade (E.faults session.old.entropy) (E.faults session.new.entropy)) }
 {
     let mut key = tsk(storage_key, &session.app().bytes());
-    let made =
-        make_unless_spent::<F, L, E>(alloc, counter, slot, session, &key, attributes, bytes);
+    let made = make_unless_spent::<F, L, E>(alloc, counter, slot, session, &key, attributes, bytes);
     wipe(&mut key);
     made
 }

@@ -172,7 +172,13 @@ fn describe_slot<F: StoreFile + Drop, L: StoreName + DevicesName>(
     ensures described { IfOk result (HasDescribed L.store slot.new found.now.handle) }
     ensures kept { MatchResult result (λ reply. KeepsSlot L.devices slot.new (told_of (File slot.new.number) reply)) (λ none. KeepsSlot L.devices slot.new []) }
 {
-    describe_object::<F, L>(alloc, &mut slot.slot, &found.held.entry, storage_key, found.handle)
+    describe_object::<F, L>(
+        alloc,
+        &mut slot.slot,
+        &found.held.entry,
+        storage_key,
+        found.handle,
+    )
 }
 
 // Tells what is known of the slot's object, which is loaded. The gate's lock is not taken.

@@ -107,7 +107,12 @@ impl Certified {
 
     /// Checks the certificate, and gives how many bytes of data the object then has.
     pub fn check(&self, alloc: Global) -> anyhow::Result<usize> {
-        match check(alloc, &self.block, &device_keys(), self.certificate.as_slice()) {
+        match check(
+            alloc,
+            &self.block,
+            &device_keys(),
+            self.certificate.as_slice(),
+        ) {
             Ok(listed) => Ok(listed.bytes.len()),
             Err(_) => bail!("not accepted"),
         }
