@@ -1,5 +1,6 @@
 pub mod Writes
 pub mod Stream
 pub mod WholeBlocks
+pub mod Chunks
 pub mod Twice
 pub mod Evidence
