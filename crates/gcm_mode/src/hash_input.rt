@@ -21,13 +21,14 @@ fn filled(part: &[u8]) -> [u8; 16]
 pub(crate) fn absorb(hash: &mut Ghash, bytes: &[u8])
     ensures { (h : ℕ) (xs : List ℕ) → Holds hash.old h xs → Holds hash.new h (xs ++ blocks (padded bytes.now)) }
 {
-    let whole = bytes.len() / 16;
-    'wholes: for i in 0..whole {
-        let mut block = [0u8; 16];
-        block.copy_from_slice(&bytes[16 * i..16 * i + 16]);
-        hash.update(&block);
+    let (blocks, rest) = bytes.as_chunks::<16>();
+    let (groups, others) = blocks.as_chunks::<4>();
+    'groups: for group in groups {
+        hash.update_four(group);
     }
-    let rest = &bytes[16 * whole..];
+    'others: for block in others {
+        hash.update(block);
+    }
     if rest.len() > 0 {
         hash.update(&filled(rest));
     }

@@ -1,5 +1,5 @@
 -- The product of polynomials by products of their halves.
-use Rattle.std.proofs.Common.{◌≡◌, ℕ, ◌+◌, ◌*◌, ◌/◌, ◌%◌, ◌^◌, ◌<◌, ◌≤◌, List, bit_xor, get_or, refl, sym, ap, ◌∙◌, arith, mod-lt}
+use Rattle.std.proofs.Common.{◌≡◌, ℕ, ◌+◌, ◌*◌, ◌/◌, ◌%◌, ◌^◌, ◌<◌, ◌≤◌, List, bit_xor, get_or, replicate, refl, sym, ap, ◌∙◌, arith, mod-lt}
 use Rattle.std.proofs.lemmas.Nat.{pow_pos, pow-add, shr_below, shr_split, shl_below, field_of, xor_lt, xor_block, xor_shr, xor_mod}
 use Rattle.std.proofs.Math.Nat.{mod-eq_of_lt}
 use Rattle.std.specs.Int.Bits.{xor_zero_l, xor_zero_r, xor_self, xor_assoc, xor_comm, xor_shifted}
@@ -142,6 +142,11 @@ added a b old new x y ha hb ea eb sums =
     ∙ joined-xor 64 (joined 32 (s 0) (s 1) (s 6)) (joined 32 (s 2) (s 3) (s 7)) (joined 32 (s 4) (s 5) (s 8))
     (joined 32 (t 0) (t 1) (t 6)) (joined 32 (t 2) (t 3) (t 7)) (joined 32 (t 4) (t 5) (t 8))
     ∙ ap (bit_xor (whole_of old)) (words-product a b ha hb)
+
+-- sums of nothing
+pub no_sums : whole_of (replicate 10 0) ≡ 0
+unfolding whole_of joined
+no_sums = refl
 
 -- the terms from x ^ 128 on of what is joined of halves
 pub joined-high : (l h b : ℕ) → l < 2 ^ 128 → joined 64 l h b / 2 ^ 128 ≡ bit_xor h (bit_xor (bit_xor l h) b / 2 ^ 64)

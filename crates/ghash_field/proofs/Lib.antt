@@ -13,4 +13,5 @@ pub mod BlockSteps
 pub mod Halves
 pub mod Folding
 pub mod Shifts
+pub mod FourBlocks
 pub mod Evidence

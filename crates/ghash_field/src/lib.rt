@@ -5,7 +5,7 @@
 //! and that is the coefficient of x^0 of its polynomial. The sum of two blocks is `^`.
 #![tactic(auto)]
 
-ghost use Rattle.std.specs.Prelude.{◌≡◌, ℕ, List, [], ◌∷◌, ◌++◌, ◌+◌, ◌*◌, ◌<◌, ◌^◌, bit_xor};
+ghost use Rattle.std.specs.Prelude.{◌≡◌, ℕ, List, [], ◌∷◌, ◌++◌, ◌+◌, ◌*◌, ◌<◌, ◌^◌, bit_xor, map};
 ghost use Rattle.std.specs.Int.{w128, from_be_bytes, to_be_bytes};
 ghost use Rattle.ghash_field.specs.Field.{block_product};
 ghost use Rattle.ghash_field.specs.Ghash.{ghash};
@@ -73,7 +73,8 @@ fn times(a: u128, words: &Words) -> u128
 /// GHASH of a run of blocks under one hash subkey, block by block.
 #[derive(Drop)]
 pub struct Ghash {
-    subkey: Words,
+    // The words of H, H^2, H^3 and H^4.
+    powers: [Words; 4],
     sum: u128,
 }
 
@@ -92,7 +93,7 @@ impl Ghash {
         ensures { Holds result 0 [] }
     {
         Ghash {
-            subkey: [0; 10],
+            powers: [[0; 10]; 4],
             sum: 0,
         }
     }
@@ -101,7 +102,11 @@ impl Ghash {
     pub fn begin(&mut self, h: u128)
         ensures { Holds self.new h [] }
     {
-        self.subkey = words_of(h);
+        let first = words_of(h);
+        let square = times(h, &first);
+        let cube = times(square, &first);
+        let fourth = times(cube, &first);
+        self.powers = [first, words_of(square), words_of(cube), words_of(fourth)];
         self.sum = 0;
     }
 
@@ -116,7 +121,34 @@ impl Ghash {
     pub fn update(&mut self, block: &[u8; 16])
         ensures { (h : ℕ) (xs : List ℕ) → Holds self.old h xs → Holds self.new h (xs ++ from_be_bytes w128 block.now ∷ []) }
     {
-        self.sum = times(self.sum ^ u128::from_be_bytes(*block), &self.subkey);
+        self.sum = times(self.sum ^ u128::from_be_bytes(*block), &self.powers[0]);
+    }
+
+    /// Takes in four blocks, in less time than one by one: each is multiplied by its own power of H,
+    /// and only the sum of the products is reduced. The first waits for the sum so far, so it is last.
+    pub fn update_four(&mut self, blocks: &[[u8; 16]; 4])
+        ensures { (h : ℕ) (xs : List ℕ) → Holds self.old h xs → Holds self.new h (xs ++ map (from_be_bytes w128) blocks.now) }
+    {
+        let mut sums = [0; 10];
+        add_products(
+            &mut sums,
+            &words_of(u128::from_be_bytes(blocks[1])),
+            &self.powers[2],
+        );
+        add_products(
+            &mut sums,
+            &words_of(u128::from_be_bytes(blocks[2])),
+            &self.powers[1],
+        );
+        add_products(
+            &mut sums,
+            &words_of(u128::from_be_bytes(blocks[3])),
+            &self.powers[0],
+        );
+        let first = self.sum ^ u128::from_be_bytes(blocks[0]);
+        add_products(&mut sums, &words_of(first), &self.powers[3]);
+        let (high, low) = whole_of(&sums);
+        self.sum = block_of(high, low);
     }
 
     /// GHASH of the blocks taken in so far, as a block.

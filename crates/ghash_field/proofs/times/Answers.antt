@@ -1,13 +1,10 @@
-use Rattle.std.proofs.Common.{◌≡◌, ℕ, ◌/◌, ◌%◌, ◌^◌, bit_xor, ap, ◌∙◌, replicate, refl}
+use Rattle.std.proofs.Common.{◌≡◌, ℕ, ◌/◌, ◌%◌, ◌^◌, bit_xor, ap, ◌∙◌}
 use Rattle.std.specs.Int.Bits.{xor_zero_l}
-use Rattle.ghash_field.specs.Words.{joined, whole_of}
+use Rattle.ghash_field.specs.Words.{whole_of}
 use Rattle.ghash_field.specs.Polynomial.{product}
 use Rattle.ghash_field.proofs.Folding.{folded-product, product-below, halves-folded}
+use Rattle.ghash_field.proofs.Halves.{no_sums}
 use Rattle.ghash_field.proofs.times.Goals as goal
-
-no_sums : whole_of (replicate 10 0) ≡ 0
-unfolding whole_of joined
-no_sums = refl
 
 pub returns : goal.returns
 returns c = λ h lt words.
