@@ -21,6 +21,14 @@ pub lane-splat : (f : ℕ → ℕ → ℕ) (a : List ℕ) (y j : ℕ) → j < 16
 lane-splat f a y j lane la =
     lane-op f a (replicate 16 y) j lane la refl ∙ ap (f (slice_index a j)) (get_or-replicate 16 j y 0 lane)
 
+-- a fact of each number below 4
+pub four_cases : (P : ℕ → Type 0) → P 0 → P 1 → P 2 → P 3 → (i : ℕ) → i < 4 → P i
+four_cases P p0 p1 p2 p3 zero lt = p0
+four_cases P p0 p1 p2 p3 (suc zero) lt = p1
+four_cases P p0 p1 p2 p3 (suc (suc zero)) lt = p2
+four_cases P p0 p1 p2 p3 (suc (suc (suc zero))) lt = p3
+four_cases P p0 p1 p2 p3 (suc (suc (suc (suc i)))) lt = absurd (omega arith)
+
 -- a fact of each number below 8
 pub eight_cases : (P : ℕ → Type 0) → P 0 → P 1 → P 2 → P 3 → P 4 → P 5 → P 6 → P 7 → (i : ℕ) → i < 8 → P i
 eight_cases P p0 p1 p2 p3 p4 p5 p6 p7 zero lt = p0

@@ -1,6 +1,7 @@
 pub mod AllBytes
 pub mod FieldLaws
 pub mod Schedule
+pub mod KeyPlanes
 pub mod ByteBits
 pub mod StaysBytes
 pub mod Unmixing

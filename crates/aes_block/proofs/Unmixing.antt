@@ -1,5 +1,5 @@
--- InvMixColumns undoes MixColumns, and is its third power: products by a matrix are additive, so tests on one byte at a
--- time show it.
+-- InvMixColumns undoes MixColumns, and is its third power: products by a matrix are additive, so
+-- tests on one byte at a time show it.
 use Rattle.std.proofs.Common.{◌≡◌, ℕ, zero, suc, ◌<◌, List, [], ◌∷◌, map, get_or, refl, sym, ap, ◌∙◌, arith, bit_xor, slice_index}
 use Rattle.std.specs.Prelude.{if◌then◌else◌, ◌==◌, slice_index_or}
 use Rattle.std.specs.List.{range_with_len}

@@ -20,6 +20,10 @@ block_of u v w x =
 abbrev pub column : List ℕ → ℕ → List ℕ
 column k c = column_of (λ r. cell k r c)
 
+-- byte j of what is added to the first word of k, with the first byte c of the round constant
+abbrev pub stirred_byte : List ℕ → ℕ → ℕ → ℕ
+stirred_byte k c j = slice_index (add_words (sub_word (rot_word (column k 3))) (c ∷ 0 ∷ 0 ∷ 0 ∷ [])) j
+
 -- the round key after k, with the first byte c of the round constant
 unfoldable pub next_round_key : List ℕ → ℕ → List ℕ
 next_round_key k c =

@@ -6,12 +6,13 @@ ghost use Rattle.aes_block.specs.State.{IsBytes};
 use crate::inverse_planes::{inv_mix_planes, inv_shift_planes, inv_sub_planes};
 use crate::key_schedule::{ROUND_CONSTANTS, next_round_key};
 use crate::plane_steps::{add_key, mix_planes, shift_planes};
-use crate::planes::{pack, unpack};
+use crate::planes::{bytes_of, key_planes, pack, planes_of, unpack};
 use crate::round_key::RoundKey;
 use crate::s_box_planes::sub_planes;
 use std::marker::Model;
 
 /// AES-128 (FIPS 197) under one key, which is expanded once, to the keys of its eleven rounds (5.2).
+/// Each is kept as planes that have it in each of eight blocks.
 ///
 /// In a contract an `Aes128` is its key, the list of 16 bytes.
 #[derive(Drop)]
@@ -35,9 +36,15 @@ impl Aes128 {
     pub fn new(key: &[u8; 16]) -> Aes128
         ensures { result ≡ key.now }
     {
-        let mut keys = [RoundKey::new(key); 11];
+        let first = key_planes(key);
+        let mut keys = [RoundKey { planes: first }; 11];
+        let mut x = planes_of(&first);
         'expand: for n in 0..10 {
-            keys[n + 1] = RoundKey::new(&next_round_key(&keys[n], ROUND_CONSTANTS[n]));
+            let next = next_round_key(x, ROUND_CONSTANTS[n]);
+            keys[n + 1] = RoundKey {
+                planes: bytes_of(next),
+            };
+            x = next;
         }
         Aes128 { keys }
     }

@@ -1,57 +1,108 @@
-// The key expansion (5.2), a round key at a time.
-ghost use Rattle.std.specs.Prelude.{◌≡◌, ℕ, ◌<◌};
-ghost use Rattle.aes_block.specs.CodeSteps.{column, next_round_key};
-ghost use Rattle.aes_block.specs.KeySchedule.{add_words, rot_word, sub_word};
-ghost use Rattle.aes_block.specs.Planes.{ArePlanes, block_in};
+// The key expansion (5.2), a round key at a time, on planes that have it in each of eight blocks.
+ghost use Rattle.std.specs.Prelude.{◌≡◌, ℕ, ◌+◌, ◌<◌, length, slice_index};
+ghost use Rattle.aes_block.specs.CodeSteps.{next_round_key, stirred_byte};
+ghost use Rattle.aes_block.specs.Planes.{ArePlanes, block_in, byte_at, turned_places};
 
-use crate::planes::{planes_of, unpack};
-use crate::round_key::RoundKey;
+use crate::plane_steps::xor_planes;
+use crate::planes::{Planes, key_planes, planes_of};
 use crate::s_box_planes::sub_planes;
+use std::simd::prelude::*;
 
 // The first bytes of Rcon 1 to Rcon 10.
 pub(crate) const ROUND_CONSTANTS: [u8; 10] = [
     0x01, 0x02, 0x04, 0x08, 0x10, 0x20, 0x40, 0x80, 0x1b, 0x36,
 ];
 
-// The sum of two words.
 #[inline(always)]
-fn add_words(u: [u8; 4], v: [u8; 4]) -> [u8; 4]
-    ensures { result ≡ add_words u v }
+fn turned_plane(v: u8x16) -> u8x16
+    requires { length v ≡ 16 }
+    ensures long { length result ≡ 16 }
+    ensures value { (j : ℕ) → j < 16 → slice_index result j ≡ slice_index v (slice_index turned_places j) }
 {
-    let [u0, u1, u2, u3] = u;
-    let [v0, v1, v2, v3] = v;
-    [u0 ^ v0, u1 ^ v1, u2 ^ v2, u3 ^ v3]
+    v.swizzle([
+        13, 14, 15, 12, 13, 14, 15, 12, 13, 14, 15, 12, 13, 14, 15, 12,
+    ])
 }
 
-// SubWord of RotWord of the last word of the round key `k`, from SubBytes of its planes.
+// RotWord of the last column, in each column.
 #[inline(always)]
-fn sub_turned(k: &RoundKey) -> [u8; 4]
-    requires wide { ArePlanes k.now.planes }
-    requires packed { (t : ℕ) → t < 8 → block_in k.now.planes t ≡ k.now.block }
-    ensures { result ≡ sub_word (rot_word (column k.now.block 3)) }
+fn turned_planes(x: Planes) -> Planes
+    requires { ArePlanes x }
+    ensures planes { ArePlanes result }
+    ensures value { (t j : ℕ) → t < 8 → j < 16 → byte_at result t j ≡ byte_at x t (slice_index turned_places j) }
 {
-    let [s, ..] = unpack(sub_planes(planes_of(&k.planes)));
-    [s[13], s[14], s[15], s[12]]
-}
-
-// The round key after `key`, with the byte `constant` of its round constant.
-#[tactic(auto, unfolding(crate::specs::CodeSteps::next_round_key))]
-pub(crate) fn next_round_key(key: &RoundKey, constant: u8) -> [u8; 16]
-    requires wide { ArePlanes key.now.planes }
-    requires packed { (t : ℕ) → t < 8 → block_in key.now.planes t ≡ key.now.block }
-    ensures { result ≡ next_round_key key.now.block constant }
-{
-    let turned = sub_turned(key);
-    let k = key.block;
-    let stirred = add_words(turned, [constant, 0, 0, 0]);
-    let w0 = add_words([k[0], k[1], k[2], k[3]], stirred);
-    let w1 = add_words([k[4], k[5], k[6], k[7]], w0);
-    let w2 = add_words([k[8], k[9], k[10], k[11]], w1);
-    let [x0, x1, x2, x3] = w0;
-    let [x4, x5, x6, x7] = w1;
-    let [x8, x9, x10, x11] = w2;
-    let [x12, x13, x14, x15] = add_words([k[12], k[13], k[14], k[15]], w2);
+    let [x0, x1, x2, x3, x4, x5, x6, x7] = x;
     [
-        x0, x1, x2, x3, x4, x5, x6, x7, x8, x9, x10, x11, x12, x13, x14, x15,
+        turned_plane(x0),
+        turned_plane(x1),
+        turned_plane(x2),
+        turned_plane(x3),
+        turned_plane(x4),
+        turned_plane(x5),
+        turned_plane(x6),
+        turned_plane(x7),
     ]
+}
+
+#[inline(always)]
+fn next_column(first: u8x16, v: u8x16) -> u8x16
+    requires first_long { length first ≡ 16 }
+    requires long { length v ≡ 16 }
+    ensures long { length result ≡ 16 }
+    ensures first { (j : ℕ) → j < 4 → slice_index result j ≡ slice_index first j }
+    ensures rest { (j : ℕ) → j < 12 → slice_index result (4 + j) ≡ slice_index v j }
+{
+    first.shuffle(
+        v,
+        [0, 1, 2, 3, 16, 17, 18, 19, 20, 21, 22, 23, 24, 25, 26, 27],
+    )
+}
+
+// The first column of `first`, and after it the first three of `x`.
+#[inline(always)]
+fn next_columns(first: Planes, x: Planes) -> Planes
+    requires first_planes { ArePlanes first }
+    requires x_planes { ArePlanes x }
+    ensures planes { ArePlanes result }
+    ensures first { (t j : ℕ) → t < 8 → j < 4 → byte_at result t j ≡ byte_at first t j }
+    ensures rest { (t j : ℕ) → t < 8 → j < 12 → byte_at result t (4 + j) ≡ byte_at x t j }
+{
+    let [f0, f1, f2, f3, f4, f5, f6, f7] = first;
+    let [x0, x1, x2, x3, x4, x5, x6, x7] = x;
+    [
+        next_column(f0, x0),
+        next_column(f1, x1),
+        next_column(f2, x2),
+        next_column(f3, x3),
+        next_column(f4, x4),
+        next_column(f5, x5),
+        next_column(f6, x6),
+        next_column(f7, x7),
+    ]
+}
+
+// What is added to the first column: SubWord of RotWord of the last one, and the round constant.
+#[inline(always)]
+fn stirred_planes(x: Planes, constant: u8) -> Planes
+    requires { ArePlanes x }
+    ensures planes { ArePlanes result }
+    ensures value { (t j : ℕ) → t < 8 → j < 4 → byte_at result t j ≡ stirred_byte (block_in x t) constant j }
+{
+    let c = constant;
+    let constants = key_planes(&[c, 0, 0, 0, c, 0, 0, 0, c, 0, 0, 0, c, 0, 0, 0]);
+    xor_planes(turned_planes(sub_planes(x)), planes_of(&constants))
+}
+
+// The round key after `x`, with the byte `constant` of its round constant. Each column is the sum
+// of the old one and of the new one before it, so the columns come right one after another.
+pub(crate) fn next_round_key(x: Planes, constant: u8) -> Planes
+    requires { ArePlanes x }
+    ensures planes { ArePlanes result }
+    ensures value { (t : ℕ) → t < 8 → block_in result t ≡ next_round_key (block_in x t) constant }
+{
+    let stirred = stirred_planes(x, constant);
+    let one = xor_planes(x, stirred);
+    let two = xor_planes(x, next_columns(stirred, one));
+    let three = xor_planes(x, next_columns(stirred, two));
+    xor_planes(x, next_columns(stirred, three))
 }

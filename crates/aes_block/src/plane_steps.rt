@@ -9,7 +9,7 @@ use crate::planes::{Planes, planes_of};
 use std::simd::prelude::*;
 
 #[inline(always)]
-fn xor_planes(x: Planes, y: Planes) -> Planes
+pub(crate) fn xor_planes(x: Planes, y: Planes) -> Planes
     requires x_planes { ArePlanes x }
     requires y_planes { ArePlanes y }
     ensures planes { ArePlanes result }

@@ -59,8 +59,9 @@ pub(crate) fn key_planes(key: &[u8; 16]) -> [[u8; 16]; 8]
     bytes_of(transpose([v, v, v, v, v, v, v, v]))
 }
 
+// The planes as bytes, to be kept.
 #[inline(always)]
-fn bytes_of(x: Planes) -> [[u8; 16]; 8]
+pub(crate) fn bytes_of(x: Planes) -> [[u8; 16]; 8]
     ensures { (i : ℕ) → i < 8 → slice_index_or result i [] ≡ slice_index_or x i [] }
 {
     let [x0, x1, x2, x3, x4, x5, x6, x7] = x;

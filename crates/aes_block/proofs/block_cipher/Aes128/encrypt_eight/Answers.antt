@@ -10,8 +10,11 @@ eight_rounds-init c = record {
   planes = c.add_key-x.ensures.planes;
   held = λ t low.
       let k = c.self.invariant.each 0 (omega arith) in
-      c.add_key-x.ensures.value t low ∙ (λ i. add_round_key (c.pack.ensures.value t low i) ((k.packed t low ∙ k.block) i));
+      c.add_key-x.ensures.value t low ∙ (λ i. add_round_key (c.pack.ensures.value t low i) (k.packed t low i));
 }
+
+pub add_key-next-requires-clause-key_planes : goal.add_key-next-requires-clause-key_planes
+add_key-next-requires-clause-key_planes c = (c.self.invariant.each (c.eight_rounds.n + 1) (omega arith)).wide
 
 pub eight_rounds-preserved : goal.eight_rounds-preserved
 eight_rounds-preserved c = record {
@@ -20,7 +23,7 @@ eight_rounds-preserved c = record {
       let k = c.self.invariant.each (c.eight_rounds.n + 1) (omega arith) in
       round_step _ _ _ _ _ _ _ _ c.eight_rounds.n (c.eight_rounds.invariant.held t low)
       (c.sub_planes.ensures.value t low) (c.shift_planes.ensures.value t low) (c.mix_planes.ensures.value t low)
-      (c.add_key-next.ensures.value t low) (k.packed t low ∙ k.block);
+      (c.add_key-next.ensures.value t low) (k.packed t low);
 }
 
 pub returns : goal.returns
@@ -29,5 +32,5 @@ returns c = λ t low.
     c.unpack.ensures t low
     ∙ last_step _ _ _ _ _ _ _ c.eight_rounds.n (c.eight_rounds.invariant.held t low) (omega arith)
     (c.sub_planes-2.ensures.value t low) (c.shift_planes-2.ensures.value t low)
-    (c.add_key.ensures.value t low) (k.packed t low ∙ k.block)
+    (c.add_key.ensures.value t low) (k.packed t low)
     ∙ ap (λ (key : List ℕ). cipher key (slice_index_or c.args.blocks.now t [])) c.self.view_is
