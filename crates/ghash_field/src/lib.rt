@@ -70,7 +70,7 @@ fn times(a: u128, words: &Words) -> u128
     block_of(high, low)
 }
 
-/// GHASH of a run of blocks under one hash subkey, block by block.
+/// GHASH of a run of blocks under one hash subkey, block by block or four blocks at once.
 #[derive(Drop)]
 pub struct Ghash {
     // The words of H, H^2, H^3 and H^4.
