@@ -1,3 +1,4 @@
+pub mod Untagged
 pub mod CardWrites
 pub mod CardCauses
 pub mod PortArms

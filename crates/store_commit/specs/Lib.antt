@@ -1,3 +1,4 @@
+pub mod Untagged
 pub mod Changes
 pub mod Sides
 pub mod CardEnds

@@ -34,6 +34,26 @@ pub enum MountFault {
     NoMemory,
 }
 
+impl MountFault {
+    ghost use Rattle.std.specs.Prelude.{◌≡◌};
+    ghost use Rattle.store_commit.specs.Untagged.{IsUntagged, untagged};
+
+    /// The fault without the computed tag of a block, for who must not learn it: the owner of the
+    /// folder, and the log.
+    #[tactic(auto, using(crate::proofs::Untagged::untagged_is))]
+    pub fn without_computed_tag(self) -> MountFault
+        ensures fault { result ≡ untagged self }
+        ensures none { IsUntagged result }
+    {
+        match self {
+            MountFault::Directory(DirFault::Tree(fault)) => {
+                MountFault::Directory(DirFault::Tree(fault.without_computed_tag()))
+            }
+            fault => fault,
+        }
+    }
+}
+
 /// A file whose directory is refused, and why.
 #[derive(Drop)]
 pub struct DirectoryRefused<F: StoreFile> {
