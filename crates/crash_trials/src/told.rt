@@ -29,18 +29,18 @@ pub enum Told {
     Failed,
 }
 
-fn told_of(fault: TreeFault) -> Told {
+fn told_of(fault: &TreeFault) -> Told {
     match fault {
         TreeFault::BadHead { .. } => Told::BadHead,
         TreeFault::Damaged { want, found, .. } if want != found => Told::Damaged,
         TreeFault::Short { end, need } if end < need => Told::Short,
-        TreeFault::BadTag { block, want, found } if want != found => Told::BadTag(block),
+        TreeFault::BadTag { block, .. } => Told::BadTag(*block),
         TreeFault::Failed { .. } => Told::Failed,
         _ => Told::OtherBytes,
     }
 }
 
-fn told_of_load(fault: ObjectFault) -> Told {
+fn told_of_load(fault: &ObjectFault) -> Told {
     match fault {
         ObjectFault::Tree(fault) => told_of(fault),
         ObjectFault::WrongSize { .. } => Told::WrongSize,
@@ -51,7 +51,7 @@ fn told_of_load(fault: ObjectFault) -> Told {
 pub fn answer_of(alloc: Global, file: MemFile, named: &Named, data: &[u8]) -> Told {
     let mut object = match load(alloc, file, named) {
         Ok(object) => object,
-        Err(broken) => return told_of_load(broken.fault),
+        Err(broken) => return told_of_load(&broken.fault),
     };
     match data_of(alloc, &mut object) {
         Ok(bytes) => {
@@ -61,6 +61,6 @@ pub fn answer_of(alloc: Global, file: MemFile, named: &Named, data: &[u8]) -> To
                 Told::OtherBytes
             }
         }
-        Err(fault) => told_of(fault),
+        Err(fault) => told_of(&fault),
     }
 }

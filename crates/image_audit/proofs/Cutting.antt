@@ -12,7 +12,7 @@ use Rattle.node_image.specs.Selection.{row}
 use Rattle.node_image.specs.Tables.{at_node, no_node}
 use Rattle.hmac_keys.specs.declared.Keys.{Keys}
 use Rattle.htree_file.specs.Opening.{Loaded}
-use Rattle.htree_file.specs.Pages.{page_of, tag_of}
+use Rattle.htree_file.specs.Pages.{page_of}
 use Rattle.dir_records.specs.declared.entry.DirEntry.{DirEntry}
 use Rattle.crash_core.specs.DeviceKeys.{directory_key, object_key}
 use Rattle.crash_core.specs.MountedObject.{root_of}
@@ -62,7 +62,7 @@ module _ (keys : Keys) (root : RootRef) (bytes : List ℕ) (h : Head) (nodes : L
     dir_page_ok page is = behind (Ok page) (ap (λ (o : Option (List ℕ)). some_or o (bad_tag cut k)) is)
 
     pub dir_page_err : (fault : ProofFault) → page_of key h (at_node nodes (k + 1)) k (field 570 4096 bytes) ≡ None
-        → fault ≡ BadTag k (at_node nodes (k + 1)).tag (tag_of key h (at_node nodes (k + 1)) k (field 570 4096 bytes)) → directory_page keys root bytes ≡ Err fault
+        → fault ≡ BadTag k (at_node nodes (k + 1)).tag → directory_page keys root bytes ≡ Err fault
     dir_page_err fault none is = behind (Err fault) (ap (λ (o : Option (List ℕ)). some_or o (bad_tag cut k)) none ∙ ap (λ (x : ProofFault). let r : Result (List ℕ) ProofFault = Err x in r) (sym is))
 
 -- THE OBJECT'S PAGES
@@ -143,10 +143,10 @@ module _ (key : List ℕ) (h : Head) (nodes : List NodeImage) (bytes : List ℕ)
   here = ap (λ (j : ℕ). get_or nodes j no_node) (let e : k ≡ (k + 1) - 1 = omega arith in e)
 
   pub block_bad : (fault : ProofFault) → text ≡ field (at + 4096 * k) 4096 bytes → page_of key h (get_or nodes k no_node) k text ≡ None
-      → fault ≡ BadTag k (get_or nodes k no_node).tag (tag_of key h (get_or nodes k no_node) k text)
+      → fault ≡ BadTag k (get_or nodes k no_node).tag
       → (page_decoded (cut_pages key h nodes bytes at) k ≡ None) × (fault ≡ bad_tag (cut_pages key h nodes bytes at) k)
   block_bad fault is none bad =
-      ((λ i. page_of key h (sym here i) k (sym is i)) ∙ none, bad ∙ (λ i. BadTag k (here i).tag (tag_of key h (here i) k (is i))))
+      ((λ i. page_of key h (sym here i) k (sym is i)) ∙ none, bad ∙ (λ i. BadTag k (here i).tag))
 
   pub block_good : (page : List ℕ) → text ≡ field (at + 4096 * k) 4096 bytes → page_of key h (get_or nodes k no_node) k text ≡ Some page → page_decoded (cut_pages key h nodes bytes at) k ≡ Some page
   block_good page is some = (λ i. page_of key h (sym here i) k (sym is i)) ∙ some
@@ -157,10 +157,10 @@ pub dir_answer : (keys : Keys) (root : RootRef) (bytes : List ℕ) (h : Head) (n
     → (key : List ℕ) (index k : ℕ) → key ≡ unwrapped_of (directory_key keys) h.wrapped → index ≡ index_in bytes → k ≡ index / 32 → nodes_test root (current_tree h nodes) ≡ Ok (current_tree h nodes)
     → (text page : List ℕ) → text ≡ field 570 4096 bytes → {A : Type 0} (r : Result A ProofFault)
     → MatchResult r (λ _. page_of key h (get_or nodes k no_node) k text ≡ Some page)
-    (λ fault. (page_of key h (get_or nodes k no_node) k text ≡ None) × (fault ≡ BadTag k (get_or nodes k no_node).tag (tag_of key h (get_or nodes k no_node) k text)))
+    (λ fault. (page_of key h (get_or nodes k no_node) k text ≡ None) × (fault ≡ BadTag k (get_or nodes k no_node).tag))
     → MatchResult r (λ _. directory_page keys root bytes ≡ Ok page) (λ fault. directory_page keys root bytes ≡ Err fault)
 dir_answer keys root bytes h nodes passed read key index k key_is index_is k_is hashed text page is (Ok a) good =
     dir_page_ok keys root bytes h nodes passed read key index k key_is index_is k_is hashed page ((λ i. page_of key h (sym (here key h nodes bytes 0 k text) i) k (sym is i)) ∙ good)
 dir_answer keys root bytes h nodes passed read key index k key_is index_is k_is hashed text page is (Err fault) bad =
     dir_page_err keys root bytes h nodes passed read key index k key_is index_is k_is hashed fault ((λ i. page_of key h (sym (here key h nodes bytes 0 k text) i) k (sym is i)) ∙ bad.0)
-    (bad.1 ∙ (λ i. BadTag k (here key h nodes bytes 0 k text i).tag (tag_of key h (here key h nodes bytes 0 k text i) k (is i))))
+    (bad.1 ∙ (λ i. BadTag k (here key h nodes bytes 0 k text i).tag))

@@ -10,7 +10,6 @@ use Rattle.node_image.specs.Layout.{has_form, head_of}
 use Rattle.node_image.specs.Tables.{at_node, hash_in}
 use Rattle.hmac_keys.specs.declared.Keys.{Keys}
 use Rattle.htree_file.specs.Opening.{Loaded, first_damaged}
-use Rattle.htree_file.specs.Pages.{tag_of}
 use Rattle.page_bytes.specs.Pages.{bytes_from, page_at}
 use Rattle.dir_records.specs.declared.entry.DirEntry.{DirEntry}
 use Rattle.dir_records.specs.declared.entry.BadRecord.{BadRecord}
@@ -85,9 +84,9 @@ nodes_test root tree =
     (Err (Damaged 1 root.hash (at_node tree.nodes 1).hash))
 
 abbrev pub bad_tag : Decoding → (k : ℕ) → ProofFault
-bad_tag sp k = BadTag k (at_node sp.tree.nodes (k + 1)).tag (tag_of sp.key sp.tree.head (at_node sp.tree.nodes (k + 1)) k (sp.block k))
+bad_tag sp k = BadTag k (at_node sp.tree.nodes (k + 1)).tag
 
--- the page of a block, or both tags
+-- the page of a block, or its node's tag
 abbrev pub page_test : Decoding → (k : ℕ) → Result (List ℕ) ProofFault
 page_test sp k = some_or (page_decoded sp k) (bad_tag sp k)
 

@@ -26,11 +26,11 @@ pub enum ProofFault {
         want: [u8; 32],
         found: [u8; 32],
     },
-    /// The tag of a block is not its node's: the node's tag, and the computed one.
+    /// The tag of a block is not its node's, which stands here. The computed one is not told: who
+    /// altered the block would learn the hash subkey from it.
     BadTag {
         block: u32,
         want: [u8; 16],
-        found: [u8; 16],
     },
 }
 

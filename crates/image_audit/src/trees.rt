@@ -2,7 +2,7 @@
 
 ghost use Rattle.std.specs.Prelude.{◌≡◌, ℕ, ◌+◌, ◌*◌, ◌≤◌, length, IfOk, IsTrue, MatchResult, None, Some, Result};
 ghost use Rattle.byte_fields.specs.Field.{field};
-ghost use Rattle.htree_file.specs.Pages.{page_of, tag_of};
+ghost use Rattle.htree_file.specs.Pages.{page_of};
 ghost use Rattle.node_image.specs.Layout.{has_form, head_of, is_sized, node_of};
 ghost use Rattle.node_image.specs.Selection.{row};
 ghost use Rattle.image_audit.specs.Checking.{head_test, nodes_test};
@@ -79,15 +79,11 @@ pub(crate) fn open_block(
     ensures { MatchResult result
         (λ _. page_of key.now head.now node.now block page.old ≡ Some page.new)
         (λ fault. (page_of key.now head.now node.now block page.old ≡ None)
-        × (fault ≡ BadTag block node.now.tag (tag_of key.now head.now node.now block page.old))) }
+        × (fault ≡ BadTag block node.now.tag)) }
 {
     match open_page(key, head, node, block, page) {
         Ok(()) => Ok(()),
-        Err(TreeFault::BadTag { block, want, found }) => Err(ProofFault::BadTag {
-            block,
-            want,
-            found,
-        }),
+        Err(TreeFault::BadTag { block, want, .. }) => Err(ProofFault::BadTag { block, want }),
         Err(_) => unreachable!(),
     }
 }

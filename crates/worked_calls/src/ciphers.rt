@@ -120,13 +120,13 @@ fn add_lengths(report: &mut Report) {
     }
 }
 
-// The second published case of AES-128, opened with its tag's last bit turned.
+// The second published case of AES-128, opened with its tag's last bit turned. The tag that was computed must not be in the line.
 fn add_refused(report: &mut Report) {
     let key = Aes128::new(&[0; 16]);
     let mut text = 0x0388dace60b6a392f328c2b971b2fe78u128.to_be_bytes();
     let tag = 0xab6e47d42cec13bdf53a67b21257bddeu128.to_be_bytes();
-    let refused = open_text(&key, &[0; 12], &[], &mut text, &tag).is_err();
-    report.line("gcm_mode: is a tag with a bit turned refused", &refused);
+    let answer = open_text(&key, &[0; 12], &[], &mut text, &tag);
+    report.line("gcm_mode: a tag with a bit turned", &answer);
     report.hex("gcm_mode: the text that was refused", &text);
 }
 
