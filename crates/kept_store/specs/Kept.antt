@@ -17,6 +17,7 @@ use Rattle.crash_core.specs.Pictures.{block_zero}
 use Rattle.object_calls.specs.Opening.{OpeningValue, bench_files, entries_in}
 use Rattle.tee_types.specs.declared.reply.Cause.TheVariants.{Fault}
 use Rattle.tee_types.specs.declared.reply.Device.TheVariants.{Card}
+use Rattle.store_commit.specs.Untagged.{IsUntagged}
 use Rattle.store_commit.specs.declared.fault.MountFault.TheVariants.{Failed}
 use Rattle.kept_store.specs.declared.fault.OpenFault.{OpenFault}
 use Rattle.kept_store.specs.declared.fault.OpenFault.TheVariants.{Block, Store}
@@ -76,6 +77,11 @@ KeepsStore port key Kept = (card : CardState) → HasCard port key card → ¬ I
 abbrev pub IfBlock : (ℕ → Type 0) → OpenFault → Type 0
 IfBlock Holds (Block count) = Holds count
 IfBlock Holds fault = Unit {0}
+
+-- the fault carries no computed tag
+abbrev pub TellsNoTag : OpenFault → Type 0
+TellsNoTag (Store fault) = IsUntagged fault
+TellsNoTag fault = Unit {0}
 
 abbrev pub card_failed : ℕ → OpenFault
 card_failed count = Store (Failed (Fault Card count))

@@ -3,6 +3,7 @@
 ghost use Rattle.std.specs.Prelude.{◌≡◌, vec_len, IfErr, IfOk, OnErr, OnOk};
 ghost use Rattle.tee_ports.specs.Faults.{Rose};
 ghost use Rattle.tee_types.specs.Limits.{file_count};
+ghost use Rattle.kept_store.specs.Kept.{TellsNoTag};
 
 use crate::fault::OpenFault;
 use crate::taking_over::failed_card;
@@ -44,7 +45,9 @@ fn folder_card<'a, W: Files<File = File>>(
     alloc: Global,
     folder: &str,
     key: &[u8; 32],
-) -> Result<KeptCard<FolderFile<'a, W>>, OpenFault> {
+) -> Result<KeptCard<FolderFile<'a, W>>, OpenFault>
+    ensures { IfErr result TellsNoTag }
+{
     let Ok(file) = FolderFile::new(rt, alloc, folder, CARD_FILE) else {
         return Err(OpenFault::Store(MountFault::NoMemory));
     };
@@ -70,7 +73,8 @@ pub fn folder_devices<'a, W: Files<File = File>>(
     folder: &str,
     key: &[u8; 32],
 ) -> Result<FolderDevices<'a, W>, OpenFault>
-    ensures { IfOk result (λ devices. vec_len devices.files ≡ file_count) }
+    ensures whole { IfOk result (λ devices. vec_len devices.files ≡ file_count) }
+    ensures untagged { IfErr result TellsNoTag }
 {
     let Ok(files) = folder_files(rt, alloc, folder) else {
         return Err(OpenFault::Store(MountFault::NoMemory));

@@ -8,7 +8,8 @@ ghost use Rattle.tee_types.specs.Limits.{directory_file, file_count};
 ghost use Rattle.object_calls.specs.Begins.{IsWholeOpening, MountsAsRead};
 ghost use Rattle.object_calls.specs.Opening.{IsKeyed};
 ghost use Rattle.object_calls.specs.OpeningFiles.{files_of};
-ghost use Rattle.kept_store.specs.Kept.{IfBlock, KeepsStore, OpensExport, OpensStore};
+ghost use Rattle.kept_store.specs.Kept.{IfBlock, KeepsStore, OpensExport, OpensStore, TellsNoTag};
+ghost use Rattle.store_commit.specs.Untagged.{IsUntagged};
 
 use crate::devices::{FolderDevices, folder_devices};
 use crate::fault::OpenFault;
@@ -64,14 +65,15 @@ fn open_store<F: StoreFile + Drop, R: RpmbPort + Drop, E: Entropy>(
     ensures opens { IfOk result (λ o. IsWholeOpening F.state R.state o) }
     ensures keeps { IfOk result (λ o. KeepsStore (R.state devices.card) (rpmb_key keys.now.huk)
         (MountsAsRead F.state (files_of F.state devices.files.items directory_file) (R.state devices.card) keys.now o)) }
+    ensures untagged { IfErr result IsUntagged }
 {
     let bench = match format_blank(alloc, devices, keys, entropy) {
         Ok(bench) => bench,
-        Err(Halted { fault, .. }) => return Err(fault),
+        Err(Halted { fault, .. }) => return Err(fault.without_computed_tag()),
     };
     match mount(alloc, bench, keys, entropy) {
         Ok(opening) => Ok(opening),
-        Err(Halted { fault, .. }) => Err(fault),
+        Err(Halted { fault, .. }) => Err(fault.without_computed_tag()),
     }
 }
 
@@ -80,8 +82,8 @@ fn open_store<F: StoreFile + Drop, R: RpmbPort + Drop, E: Entropy>(
 ///
 /// # Errors
 ///
-/// `Block` where the file of the exported block failed. `Store` where the card failed, or as the format and the mount say. The devices
-/// are let go.
+/// `Block` where the file of the exported block failed. `Store` where the card failed, or as the format and the mount say, without a
+/// computed tag. The devices are let go.
 pub fn open_devices<F: StoreFile + Drop, R: RpmbPort + Drop, G: StoreFile, E: Entropy>(
     alloc: Global,
     devices: Bench<F, R>,
@@ -98,6 +100,7 @@ pub fn open_devices<F: StoreFile + Drop, R: RpmbPort + Drop, G: StoreFile, E: En
         (G.state exported.new) keys.now o) }
     ensures rests { Rests (G.state exported.old) (G.state exported.new) }
     ensures failed { IfErr result (IfBlock (λ count. FileFailed (G.state exported.old) (G.state exported.new) count)) }
+    ensures untagged { IfErr result TellsNoTag }
 {
     let Bench { files, card } = devices;
     let mut host = Host::new(card, rpmb_key(keys));
@@ -126,6 +129,7 @@ pub fn open_folder<'a, W: Files<File = File>, E: Entropy>(
 ) -> Result<FolderOpening<'a, W>, OpenFault>
     ensures keyed { IfOk result (λ o. IsKeyed keys.now o) }
     ensures unopened { IfOk result (λ o. o.applications ≡ []) }
+    ensures untagged { IfErr result TellsNoTag }
 {
     let devices = match folder_devices(rt, alloc, folder, rpmb_key(keys).bytes()) {
         Ok(devices) => devices,

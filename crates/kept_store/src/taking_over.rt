@@ -5,7 +5,7 @@ ghost use Rattle.disk_model.specs.Calls.{Rests};
 ghost use Rattle.htree_file.specs.Answers.{FileFailed};
 ghost use Rattle.rpmb_card.specs.Card.{CardState};
 ghost use Rattle.rpmb_host.specs.Honest.{HasCard};
-ghost use Rattle.kept_store.specs.Kept.{IfBlock, IsBlank, TakesOver, WritesFirst, card_failed};
+ghost use Rattle.kept_store.specs.Kept.{IfBlock, IsBlank, TakesOver, TellsNoTag, WritesFirst, card_failed};
 
 use crate::fault::OpenFault;
 use folder_audit::read_block;
@@ -32,10 +32,11 @@ pub(crate) fn take_over<G: StoreFile, R: RpmbPort, E: Entropy>(
     ensures rests { Rests (G.state exported.old) (G.state exported.new) }
     ensures takes { OnOk result (TakesOver (R.state host.old.port) (R.state host.new.port) host.old.key (G.state exported.new)) }
     ensures failed { IfErr result (IfBlock (λ count. FileFailed (G.state exported.old) (G.state exported.new) count)) }
+    ensures untagged { IfErr result TellsNoTag }
 {
     let counter = match read_card(host, entropy) {
         Ok(CardRead { counter, .. }) => counter,
-        Err(fault) => return Err(OpenFault::Store(fault)),
+        Err(fault) => return Err(OpenFault::Store(fault.without_computed_tag())),
     };
     if counter > 0 {
         return Ok(());
@@ -70,6 +71,7 @@ fn write_first<R: RpmbPort>(host: &mut Host<R>, block: &[u8; 256]) -> Result<(),
     ensures writes { OnOk result ((card : CardState) → HasCard (R.state host.old.port) host.old.key card → card.counter ≡ 0
         → WritesFirst card (R.state host.new.port) block.now) }
     ensures store { IfErr result (IfBlock (λ count. ⊥)) }
+    ensures untagged { IfErr result TellsNoTag }
 {
     match host.write_block(0, 0, block) {
         Ok(_) => Ok(()),

@@ -1,5 +1,5 @@
 -- The lines of objects and of refusals.
-use Rattle.std.specs.Prelude.{ℕ, List, [], ◌∷◌, ◌++◌, Option, Some, None, codes, decimal, nat_le, if◌then◌else◌, length}
+use Rattle.std.specs.Prelude.{ℕ, List, [], ◌∷◌, ◌++◌, ◌==◌, Option, Some, None, codes, decimal, nat_le, if◌then◌else◌, length}
 use Rattle.std.specs.Int.{w16, to_be_bytes}
 use Rattle.hex.specs.Hex.{encode_lower}
 use Rattle.sha2.specs.Sha256.{sha256}
@@ -39,12 +39,16 @@ unfoldable pub objects_text : ObjectMap → List ℕ
 objects_text [] = []
 objects_text (entry ∷ objects) = object_line entry ++ objects_text objects
 
+-- a computed tag, where it was not taken out
+abbrev pub computed_text : List ℕ → List ℕ
+computed_text tag = if length tag == 0 then [] else codes " " ++ encode_lower tag
+
 -- why a tree does not load, where that is told
 abbrev pub tree_text : TreeFault → Option (List ℕ)
 tree_text (BadHead length greatest) = Some (codes "head " ++ decimal length ++ codes " " ++ decimal greatest)
 tree_text (Short end need) = Some (codes "short " ++ decimal end ++ codes " " ++ decimal need)
 tree_text (DamagedNode node want found) = Some (codes "hash " ++ decimal node ++ codes " " ++ encode_lower want ++ codes " " ++ encode_lower found)
-tree_text (BadTag block want found) = Some (codes "tag " ++ decimal block ++ codes " " ++ encode_lower want ++ codes " " ++ encode_lower found)
+tree_text (BadTag block want found) = Some (codes "tag " ++ decimal block ++ codes " " ++ encode_lower want ++ computed_text found)
 tree_text (FileFailed count) = None
 tree_text (NoEntropy count) = None
 tree_text NoRoom = None

@@ -2,10 +2,10 @@
 
 ghost use Rattle.std.specs.Prelude.{◌≡◌, ◌++◌, [], length, take, is_some, unwrap_or, codes, decimal, OnErr, OnOk};
 ghost use Rattle.hex.specs.Hex.{encode_lower};
-ghost use Rattle.run_acts.specs.Lines.{directory_text, refusal_line, tree_text, why_text};
+ghost use Rattle.run_acts.specs.Lines.{computed_text, directory_text, refusal_line, tree_text, why_text};
 
 use crash_core::DirFault;
-use htree_file::TreeFault;
+use htree_file::{ComputedTag, TreeFault};
 use script_text::{put, put_word_hex, put_word_number};
 use store_commit::MountFault;
 use tee_types::NoMemory;
@@ -35,6 +35,27 @@ fn put_pair(
     put_word_hex(out, b" ", found)
 }
 
+/// Appends a computed tag, where it was not taken out.
+fn put_computed(out: &mut Vec<u8>, tag: &ComputedTag) -> Result<(), NoMemory>
+    ensures ok { OnOk result (out.new.items ≡ out.old.items ++ computed_text tag.now) }
+    ensures kept { take (length out.old.items) out.new.items ≡ out.old.items }
+{
+    match tag.of_simulated_store() {
+        Some(bytes) => put_word_hex(out, b" ", &bytes),
+        None => Ok(()),
+    }
+}
+
+/// Appends that a block has another tag than its node.
+fn put_tag(out: &mut Vec<u8>, block: u64, want: &[u8], found: &ComputedTag) -> Result<(), NoMemory>
+    ensures ok { OnOk result (out.new.items ≡ out.old.items ++ codes "tag " ++ decimal block ++ codes " " ++ encode_lower want.now ++ computed_text found.now) }
+    ensures kept { take (length out.old.items) out.new.items ≡ out.old.items }
+{
+    put_word_number(out, b"tag ", block)?;
+    put_word_hex(out, b" ", want)?;
+    put_computed(out, found)
+}
+
 /// Appends why a tree does not load, where that is told.
 fn put_tree(out: &mut Vec<u8>, fault: &TreeFault) -> Result<(), NoMemory>
     ensures ok { OnOk result (out.new.items ≡ out.old.items ++ unwrap_or (tree_text fault.now) []) }
@@ -48,9 +69,7 @@ fn put_tree(out: &mut Vec<u8>, fault: &TreeFault) -> Result<(), NoMemory>
         TreeFault::Damaged { node, want, found } => {
             put_pair(out, b"hash ", *node as u64, want, found)
         }
-        TreeFault::BadTag { block, want, found } => {
-            put_pair(out, b"tag ", *block as u64, want, found)
-        }
+        TreeFault::BadTag { block, want, found } => put_tag(out, *block as u64, want, found),
         _ => Ok(()),
     }
 }
@@ -126,7 +145,8 @@ fn put_refusal(text: &mut Vec<u8>, fault: &MountFault) -> Result<(), NoMemory>
 }
 
 /// Appends the line of why a store was not mounted, or nothing where that is never printed: of a device that failed, of a card whose
-/// counter is at its end, and of memory that ran out.
+/// counter is at its end, and of memory that ran out. The computed tag of a block is printed where the fault has it: a run over
+/// simulated devices prints it, and any other takes it out first.
 ///
 /// # Errors
 ///

@@ -11,6 +11,8 @@ use Rattle.tee_types.specs.Limits.{directory_file}
 use Rattle.run_acts.specs.declared.MountFault.{MountFault}
 use Rattle.run_acts.specs.declared.MountFault.TheVariants.{CardBlock, CardResult, Directory, Failed, Frame, NoMemory as NoCardMemory, NoStore, OldFormat, Spent}
 use Rattle.run_acts.specs.Lines.{refusal_line}
+use Rattle.crash_core.specs.declared.fault.DirFault.TheVariants.{Double, Record, Tree, WrongLength}
+use Rattle.store_commit.specs.Untagged.{untagged}
 use Rattle.script_runner.specs.declared.status.Status.{Status}
 use Rattle.script_runner.specs.declared.status.Status.TheVariants.{DeviceFault, Done, FileFault, MountRefused, NoMemory, WriteFault}
 use Rattle.script_runner.specs.Audits.{RunsAudit}
@@ -110,7 +112,7 @@ module _ (keys : Keys) (failed : Type 0) (held_old held_new : Option (List ℕ))
       by_fault block Spent is = absurd is
       by_fault block NoCardMemory is = absurd is
 
-  pub runs_refused : (fault : MountFault) → AuditsFolder keys old new lines {A = Unit {0}} (Err (Refused fault)) → (status : Status) → PrintsRefusal failed held_old held_new lines fault status
+  pub runs_refused : (fault : MountFault) → AuditsFolder keys old new lines {A = Unit {0}} (Err (Refused fault)) → (status : Status) → PrintsRefusal failed held_old held_new lines (untagged fault) status
       → RunsAudit keys failed held_old held_new old new status
   runs_refused fault audits WriteFault t = record {
     lines = lines;
@@ -119,7 +121,7 @@ module _ (keys : Keys) (failed : Type 0) (held_old held_new : Option (List ℕ))
     put = t.2.0;
     appended = t.2.1;
     begins = t.2.2;
-    ends = t.0;
+    ends = is_refusal fault audits;
     cause = t.1;
   }
   runs_refused fault audits NoMemory t = record {
@@ -136,19 +138,22 @@ module _ (keys : Keys) (failed : Type 0) (held_old held_new : Option (List ℕ))
     lines = lines;
     end = Err (Refused fault);
     audits = audits;
-    put = lines ++ refusal_line fault;
+    put = lines ++ refusal_line (untagged fault);
     appended = t.2;
-    begins = ([], sym (append-nil (lines ++ refusal_line fault)));
+    begins = ([], sym (append-nil (lines ++ refusal_line (untagged fault))));
     ends = t.0;
     cause = (subst IsRefusal (sym t.0) t.1, refl);
   }
   runs_refused fault audits (DeviceFault printed) t = absurd (no_device fault (is_refusal fault audits) t.1)
     where
-      no_device : (f : MountFault) → IsRefusal f → IsDeviceFault f → ⊥
+      no_device : (f : MountFault) → IsRefusal f → IsDeviceFault (untagged f) → ⊥
       no_device NoStore is device = device
       no_device (CardBlock byte) is device = device
       no_device (OldFormat file) is device = device
-      no_device (Directory g) is device = device
+      no_device (Directory (Tree g)) is device = device
+      no_device (Directory (WrongLength long)) is device = device
+      no_device (Directory (Record index offset)) is device = device
+      no_device (Directory (Double index first)) is device = device
       no_device (Frame g) is device = device
       no_device (CardResult result) is device = device
       no_device (Failed cause) is device = is

@@ -3,6 +3,7 @@ use Rattle.std.specs.Prelude.{◌≡◌, ◌⊎◌, ℕ, List, ◌++◌, Option,
 use Rattle.hmac_keys.specs.declared.Keys.{Keys}
 use Rattle.tee_ports.specs.Streams.{Appends}
 use Rattle.run_acts.specs.Lines.{refusal_line}
+use Rattle.store_commit.specs.Untagged.{untagged}
 use Rattle.folder_audit.specs.declared.fault.AuditFault.{AuditFault}
 use Rattle.folder_audit.specs.declared.fault.AuditFault.TheVariants.{Failed, NoMemory as NoRoom, Refused}
 use Rattle.folder_audit.specs.Audit.{AuditsFolder, FolderStates}
@@ -11,16 +12,16 @@ use Rattle.script_runner.specs.declared.status.Status.TheVariants.{Done, FileFau
 use Rattle.script_runner.specs.RunRefusals.{IsRefusal}
 use Rattle.script_runner.specs.Sending.{Begins}
 
--- its text: the lines of the objects, and behind them the line of a refusal
+-- its text: the lines of the objects, and behind them the line of a refusal, without a computed tag
 abbrev pub audit_output : (lines : List ℕ) → {A : Type 0} → Result A AuditFault → List ℕ
-audit_output lines (Err (Refused fault)) = lines ++ refusal_line fault
+audit_output lines (Err (Refused fault)) = lines ++ refusal_line (untagged fault)
 audit_output lines end = lines
 
 -- The statuses that an end may have: where a store is refused, it is told, or the sink took no more of its line, or there was no memory for it.
 abbrev pub EndsAudit : {A : Type 0} → Result A AuditFault → Status → Type 0
 EndsAudit (Ok done) Done = Unit {0}
 EndsAudit (Ok done) WriteFault = Unit {0}
-EndsAudit (Err (Refused fault)) (MountRefused told) = told ≡ fault
+EndsAudit (Err (Refused fault)) (MountRefused told) = told ≡ untagged fault
 EndsAudit (Err (Refused fault)) WriteFault = IsRefusal fault
 EndsAudit (Err (Refused fault)) NoMemory = IsRefusal fault
 EndsAudit (Err (Failed fault)) (FileFault told) = told ≡ fault

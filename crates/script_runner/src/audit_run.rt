@@ -14,7 +14,8 @@ use hmac_keys::Keys;
 use std::alloc::Global;
 use tee_ports::{Sink, StoreFile};
 
-/// Audits the store in a folder, and writes the line of each object, or of a refusal.
+/// Audits the store in a folder, and writes the line of each object, or of a refusal. Who owns the folder reads these lines, so a computed
+/// tag is not among them.
 pub(crate) fn run_audit<K: Sink, G: StoreFile + Drop>(
     alloc: Global,
     sink: &mut K,
@@ -30,7 +31,10 @@ pub(crate) fn run_audit<K: Sink, G: StoreFile + Drop>(
     let Audit { lines, end } = audit_folder(alloc, keys, folder);
     match end {
         Ok(()) => print_last_lines(lines, sink),
-        Err(AuditFault::Refused(fault)) => print_mount_refusal(fault, sink, lines),
+        Err(AuditFault::Refused(fault)) => {
+            let told = fault.without_computed_tag();
+            print_mount_refusal(told, sink, lines)
+        }
         Err(AuditFault::Failed(fault)) => {
             let _put = print_last_lines(lines, sink);
             Status::FileFault(fault)
