@@ -103,6 +103,27 @@ kept_on old new card kept tidy goes front keeps = λ tells known.
       pending_from = λ tidy. absurd (cc (tidy));
     }
 
+-- a file was cut behind the requests that it keeps, and settled
+pub kept_tidied : {A : Type 0} (old mid new : FileState) (kept : ℕ) (outcome : Result A Failed) → GoesOn old mid → Front old mid kept
+    → (Known old mid → 512 * kept ≤ length old.reads → length mid.reads ≡ 512 * kept) → OnOk outcome (Syncs mid new)
+    → OnOk outcome ((card : CardState) (tidy : Bool) → KeepsCard old card kept tidy → KeepsCard new card kept true)
+kept_tidied old mid new kept (Ok a) first front cut syncs = λ card tidy keeps tells known.
+    let known_mid_new : Known mid new = known_at_end mid new syncs.goes_on known in
+    let known_mid : Known mid mid = known_at_start mid new syncs.goes_on known_mid_new in
+    let known_old_mid : Known old mid = known_at_end old mid first known_mid in
+    let k = keeps (tells_before old mid first (tells_before mid new syncs.goes_on tells)) (known_at_start old mid first known_old_mid) in
+    let long : length mid.reads ≡ 512 * kept = cut known_old_mid k.room in
+    let same : new.reads ≡ mid.reads = syncs.reads known_mid_new in
+    let end : length new.reads ≡ 512 * kept = ap length same ∙ long in
+    record {
+      room = omega (arith, end);
+      made = ap (λ (l : List ℕ). card_after_first l kept) same ∙ sym (same_front kept old.reads mid.reads (front known_old_mid) k.room) ∙ k.made;
+      end = λ is. end;
+      settled = λ is honest. syncs.settled honest;
+      pending_from = λ is. syncs.pending_from;
+    }
+kept_tidied old mid new kept (Err e) first front cut syncs = tt
+
 -- a file was measured, its requests were replayed, it was cut behind them and settled
 pub opened : (one two three four : FileState) (card : CardState) (count end : ℕ) → (IsTrue one.tells → end ≡ length one.reads) → 512 * count ≤ end
     → Rests one two → (IsTrue one.tells → Known one two → 512 * count ≤ length one.reads → card ≡ card_after_first one.reads count)

@@ -21,6 +21,10 @@ synced_keeps K old mid new (Err e) sound first s r = keeps_then K old mid new fi
 pub front_synced : (old new : FileState) (count : ℕ) → Syncs old new → HoldsFront new count
 front_synced old new count syncs = λ honest place byte lt has image left. subst (λ (l : List ℕ). Has l place byte) (sym (synced old new syncs honest image left)) has
 
+pub front_tidied : {A : Type 0} (old new : FileState) (count : ℕ) (outcome : Result A Failed) → OnOk outcome (Syncs old new) → OnOk outcome (HoldsFront new count)
+front_tidied old new count (Ok a) syncs = front_synced old new count syncs
+front_tidied old new count (Err e) syncs = tt
+
 pub front_put : {A : Type 0} (old new : FileState) (count next : ℕ) (request : List ℕ) (outcome : Result A Failed) → OnOk outcome (IsPut old new count request) → OnOk outcome (HoldsFront new next)
 front_put old new count next request (Ok a) put = λ honest place byte lt has image left.
     subst (λ (l : List ℕ). Has l place byte) (sym (only_image new (put.settled honest) put.pending_from honest image left)) has

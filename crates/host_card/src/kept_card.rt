@@ -5,9 +5,9 @@ ghost use Rattle.disk_model.specs.Calls.{GoesOn, Known};
 ghost use Rattle.disk_model.specs.Keeps.{Keeps};
 ghost use Rattle.disk_model.specs.Faults.{Rose, next_count};
 ghost use Rattle.rpmb_card.specs.Card.{CardState, IsCard, blank, card_after, card_answer};
-ghost use Rattle.rpmb_card.specs.Port.{heard_after};
+ghost use Rattle.rpmb_card.specs.Port.{Exchanged, heard_after};
 ghost use Rattle.host_card.specs.Requests.{Below, Counts, Front, card_in};
-ghost use Rattle.host_card.specs.Kept.{HasFault, HoldsFront, KeepsCard, is_change};
+ghost use Rattle.host_card.specs.Kept.{HasFault, HoldsFront, KeepsCard, is_change, kept_port};
 
 use crate::{cut, put_request, replay};
 use rpmb_card::{Heard, PROGRAM_KEY, RpmbPort, SimCard, WRITE_BLOCK};
@@ -94,6 +94,21 @@ fn keep<F: StoreFile>(file: &mut F, kept: u64, request: &[u8; 512]) -> Result<()
     put_request(file, kept, request)
 }
 
+// Cuts off what stands behind the first requests, and settles the file.
+fn tidy_up<F: StoreFile>(file: &mut F, kept: u64) -> Result<(), Failed>
+    requires { kept < 8388608 }
+    ensures goes_on { GoesOn (F.state file.old) (F.state file.new) }
+    ensures front { Front (F.state file.old) (F.state file.new) kept }
+    ensures keeps { Keeps (Below kept) (F.state file.old) (F.state file.new) }
+    ensures counts { Counts (F.state file.old) (F.state file.new) result }
+    ensures held { OnOk result (HoldsFront (F.state file.new) kept) }
+    ensures kept { OnOk result ((card : CardState) (tidy : Bool) → KeepsCard (F.state file.old) card kept tidy →
+        KeepsCard (F.state file.new) card kept true) }
+{
+    cut(file, kept)?;
+    file.sync()
+}
+
 // The card takes a frame, and its answer is heard.
 fn answered(card: &mut SimCard, heard: &mut Heard, frame: &[u8; 512]) -> [u8; 512]
     requires few { length heard.old ≤ 3 }
@@ -122,8 +137,9 @@ fn count_fault(faults: &mut u64) -> Failed
 /// bytes. Opened again, the card takes them again.
 ///
 /// A request that changes the card is settled in the file before the card acts. Where the file fails, the exchange fails and
-/// the card has not acted; whether it acts when the file is opened again is open. A file keeps 8,388,607 requests, and each
-/// change past them fails.
+/// the card has not acted; whether it acts when the file is opened again is open. So until the file is cut back and settled
+/// the port answers nothing: each exchange tries that first, and fails where it fails. A file keeps 8,388,607 requests, and
+/// each change past them fails.
 ///
 /// It protects nothing from who can write the file, and is for trials. Two at once must not be open over one file.
 #[derive(Drop)]
@@ -179,11 +195,37 @@ impl<F: StoreFile> KeptCard<F> {
     }
 
     /// The file ends behind the requests that were answered, and these are settled. It is not so from a change that failed to
-    /// the next one that is answered.
+    /// the next exchange that is answered.
     pub fn is_tidy(&self) -> bool
         ensures { result ≡ self.now.tidy }
     {
         self.tidy
+    }
+
+    // The card takes a frame, behind which its file is tidy where it was before and there is an answer.
+    fn pass(&mut self, frame: &[u8; 512]) -> Result<[u8; 512], Failed>
+        ensures exchanged { Exchanged (kept_port (box_value self.old.card) self.old.heard self.old.faults)
+            (kept_port (box_value self.new.card) self.new.heard self.new.faults) frame.now result }
+        ensures cause { OnErr result (Rose (F.state self.old.file).faults (F.state self.new.file).faults ⊎ (self.old.kept ≡ 8388607)) }
+        ensures keeps { Keeps (Below self.old.kept) (F.state self.old.file) (F.state self.new.file) }
+        ensures tidy { IsTrue self.old.tidy → OnOk result (IsTrue self.new.tidy) }
+    {
+        if !is_change(frame) {
+            return Ok(answered(&mut self.card, &mut self.heard, frame));
+        }
+        if self.kept == MOST {
+            return Err(count_fault(&mut self.faults));
+        }
+        self.tidy = false;
+        match keep(&mut self.file, self.kept, frame) {
+            Ok(()) => {
+                let answer = answered(&mut self.card, &mut self.heard, frame);
+                self.kept += 1;
+                self.tidy = true;
+                Ok(answer)
+            }
+            Err(_) => Err(count_fault(&mut self.faults)),
+        }
     }
 
     /// The file.
@@ -221,22 +263,23 @@ impl<F: StoreFile> RpmbPort for KeptCard<F> {
             (kept_port (box_value self.new.card) self.new.heard self.new.faults) frame.now result }
         ensures cause { OnErr result (Rose (F.state self.old.file).faults (F.state self.new.file).faults ⊎ (self.old.kept ≡ 8388607)) }
         ensures held { HoldsCard (F.state self.old.file) (F.state self.new.file) (box_value self.old.card) self.old.kept }
+
+        // Where it answers, the file ends behind the requests that were answered, and these are settled:
+        // so each image that a crash may leave has the card that answered.
+        ensures tidy { OnOk result (IsTrue self.new.tidy) }
     {
-        if !is_change(frame) {
-            return Ok(answered(&mut self.card, &mut self.heard, frame));
+        if self.tidy {
+            return self.pass(frame);
         }
-        if self.kept == MOST {
-            return Err(count_fault(&mut self.faults));
-        }
-        self.tidy = false;
-        match keep(&mut self.file, self.kept, frame) {
+        match tidy_up(&mut self.file, self.kept) {
             Ok(()) => {
-                let answer = answered(&mut self.card, &mut self.heard, frame);
-                self.kept += 1;
                 self.tidy = true;
-                Ok(answer)
+                self.pass(frame)
             }
-            Err(_) => Err(count_fault(&mut self.faults)),
+            Err(_) => {
+                self.tidy = false;
+                Err(count_fault(&mut self.faults))
+            }
         }
     }
 }
