@@ -12,8 +12,8 @@ use Rattle.std.proofs.Common.{ap}
 use Rattle.serial_calls.proofs.Unfailed.{created_unfailed}
 use Rattle.serial_calls.proofs.handle_calls.create.Goals as goal
 
-pub create-requires-clause-may : goal.create-requires-clause-may
-create-requires-clause-may g c =
+pub create-created-requires-clause-may : goal.create-created-requires-clause-may
+create-created-requires-clause-may g c =
     let old = c.args.gate.now in
     let state = c.args.session.now.state in
     let rules = c.in-Needs.ensures in
@@ -25,7 +25,7 @@ create-requires-clause-may g c =
 
 pub returns-clause-serves : goal.returns-clause-serves
 returns-clause-serves g c =
-    let done = c.create in
+    let done = c.create-created in
     let slots = c.args.slots.now.items in
     let file = c.reserve-file.result in
     let place = c.from.result - 1 in
@@ -43,7 +43,7 @@ returns-clause-serves g c =
 
 pub returns-clause-passed : goal.returns-clause-passed
 returns-clause-passed g c =
-    let done = c.create in
+    let done = c.create-created in
     let slots = c.args.slots.now.items in
     let file = c.reserve-file.result in
     let place = c.from.result - 1 in
