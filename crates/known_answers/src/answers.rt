@@ -1,8 +1,9 @@
 // The answers.
 
-ghost use Rattle.std.specs.Prelude.{◌≡◌, ◌∷◌, IfOk, map, string_bytes};
+ghost use Rattle.std.specs.Prelude.{◌≡◌, ◌∷◌, ◌≤◌, ◌^◌, IfOk, length, map, string_bytes};
 ghost use Rattle.aes_block.specs.Cipher.{cipher};
 ghost use Rattle.aes_block.specs.InverseCipher.{inv_cipher};
+ghost use Rattle.gcm_mode.specs.Gcm.{gcm_tag};
 ghost use Rattle.known_answers.specs.Answers.{IsAnswer, IsOpenedLine, card_answers, fields_line, ghash_of, sealed_line, worn_card};
 ghost use Rattle.known_answers.specs.Lines.{hex_word, spaced};
 
@@ -42,6 +43,18 @@ fn sealed(alloc: Global, parts: Parts) -> Result<String, AllocError>
     two_words(alloc, &text, &tag)
 }
 
+// The tag of a ciphertext: enciphered twice it is the same text again.
+fn computed_tag(key: &Aes128, iv: &[u8], aad: &[u8], text: &mut [u8]) -> [u8; 16]
+    requires iv_low { 1 ≤ length iv.now }
+    requires iv_high { length iv.now ≤ 2 ^ 24 }
+    requires aad { length aad.now ≤ 2 ^ 24 }
+    requires text { length text.old ≤ 2 ^ 24 }
+    ensures { result ≡ gcm_tag (cipher key.now) iv.now aad.now text.old }
+{
+    let _tag = seal(key, iv, aad, text);
+    seal(key, iv, aad, text)
+}
+
 fn opened(alloc: Global, parts: Parts, tag: &[u8; 16]) -> Result<String, AllocError>
     ensures { IfOk result (λ line. IsOpenedLine parts tag.now (string_bytes line)) }
 {
@@ -51,11 +64,13 @@ fn opened(alloc: Global, parts: Parts, tag: &[u8; 16]) -> Result<String, AllocEr
         aad,
         mut text,
     } = parts;
-    match open_text(&Aes128::new(&key), &iv, &aad, &mut text, tag) {
+    let cipher = Aes128::new(&key);
+    match open_text(&cipher, &iv, &aad, &mut text, tag) {
         Ok(()) => word_of(alloc, &text),
-        Err(bad) => {
+        Err(_) => {
+            let found = computed_tag(&cipher, &iv, &aad, &mut text);
             let mut line = String::from_str(alloc, "bad-tag ")?;
-            line.push_str(&two_words(alloc, &bad.want, &bad.found)?)?;
+            line.push_str(&two_words(alloc, tag, &found)?)?;
             Ok(line)
         }
     }

@@ -19,6 +19,7 @@ use crate::{
     DevicesName, SharedGate, create_call, delete_call, info_call, open_call, read_call,
     rename_call, truncate_call, write_call,
 };
+use hmac_keys::SecretKey;
 use rpmb_card::RpmbPort;
 use serial_calls::{GuardedSlot, PlacedReply, Session, StoreName};
 use std::alloc::Global;
@@ -136,7 +137,7 @@ pub fn attempt<
     mut first: MutexGuard<'_, SharedGate<F, R, L>>,
     gate: &Mutex<SharedGate<F, R, L>>,
     slot: &mut GuardedSlot<F, L>,
-    key: &[u8; 32],
+    key: &SecretKey,
     session: &mut Session<E>,
     call: &Call,
 ) -> Result<Option<PlacedReply>, NoMemory>

@@ -5,7 +5,7 @@ use rpmb_card::{
     CardRig, PROGRAM_KEY, READ_RESULT, RpmbPort, SimCard, SimPort, WRITE_BLOCK, empty_frame,
 };
 use rpmb_frame::{Frame, mac, seal_frame, verify};
-use rpmb_host::{Host, HostFault};
+use rpmb_host::{Host, HostFault, SecretKey};
 use std::alloc::Global;
 use tee_ports::{Failed, NoMemory};
 
@@ -128,7 +128,7 @@ fn add_port(report: &mut Report, alloc: Global) -> Result<(), NoMemory> {
 }
 
 fn host_of(alloc: Global) -> Host<SimPort> {
-    Host::new(SimPort::new(alloc, card_with_key()), KEY)
+    Host::new(SimPort::new(alloc, card_with_key()), SecretKey::new(KEY))
 }
 
 fn counter_of(host: &mut Host<SimPort>) -> Result<u32, HostFault> {

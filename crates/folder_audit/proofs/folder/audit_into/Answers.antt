@@ -1,7 +1,8 @@
 use Rattle.std.proofs.Common.{◌∙◌, ◌<◌, length, set, Err, inl, inr, subst, sym, arith}
 use Rattle.disk_model.specs.State.{FileState}
 use Rattle.tee_types.specs.Limits.{file_count}
-use Rattle.folder_audit.specs.Audit.{AuditsFolder, folder_states}
+use Rattle.hmac_keys.specs.declared.Keys.{Keys}
+use Rattle.folder_audit.specs.Audit.{AuditsFolder, EndsUnder, folder_states}
 use Rattle.folder_audit.specs.Reading.{IsBlockOf}
 use Rattle.folder_audit.proofs.Opened.{ends_from}
 use Rattle.folder_audit.proofs.Places.{one_failed, one_passed, one_rest, touches_set}
@@ -42,6 +43,7 @@ returns-clause-audit g c =
       ends = inl (record {
         block = c.in-Ok.block;
         read = λ none. subst (λ (s : FileState). IsBlockOf s c.in-Ok.block) (sym (audit.ensures.last none ∙ one.new_is none)) c.in-Ok.ensures.block;
-        holds = ends_from c.args.keys.now c.in-Ok.block old mid new first audit.ensures.rests (one_passed old mid file_count (state file) (state next) one c.in-Ok.ensures.passed) audit.new.lines.items audit.result audit.ensures.ends;
+        holds = ends_from c.args.keys.now c.in-Ok.block old mid new first audit.ensures.rests (one_passed old mid file_count (state file) (state next) one c.in-Ok.ensures.passed) audit.new.lines.items audit.result
+            (subst (λ (keys : Keys). EndsUnder keys c.in-Ok.block mid new audit.new.lines.items audit.result) c.copy.ensures audit.ensures.ends);
       });
     }
