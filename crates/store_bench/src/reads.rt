@@ -1,16 +1,17 @@
 // Short reads of an open object, served on one thread.
 
-ghost use Rattle.std.specs.Prelude.{◌≡◌, IfOk};
+ghost use Rattle.std.specs.Prelude.{◌≡◌, [], IfOk};
 ghost use Rattle.script_text.specs.declared.script.Step.TheVariants.{Call as CallStep};
+ghost use Rattle.object_calls.specs.Opening.{IsKeyed};
 ghost use Rattle.run_acts.specs.ServedSteps.{AreCalls};
 
 use anyhow::bail;
+use hmac_keys::Keys;
 use mem_files::MemFile;
 use object_calls::{Closed, Opening, format, mount};
 use run_acts::serve_serially;
 use script_text::Step;
 use std::alloc::Global;
-use tee_ports::ListEntropy;
 use tee_types::{AppId, Bytes, Call, Flags, OVERWRITE, ObjectId, READ, Whence};
 use trial_runs::{CardPort, blank_bench, reliable, simulator_keys};
 use uuid::Uuid;
@@ -59,13 +60,15 @@ fn steps(alloc: Global, reads: u32) -> anyhow::Result<Vec<Step>>
 }
 
 // A new store on simulated devices.
-fn new_store(alloc: Global) -> anyhow::Result<Opening<MemFile, CardPort>> {
-    let keys = simulator_keys();
+fn new_store(alloc: Global, keys: &Keys) -> anyhow::Result<Opening<MemFile, CardPort>>
+    ensures keyed { IfOk result (λ opening. IsKeyed keys.now opening) }
+    ensures unopened { IfOk result (λ opening. opening.applications ≡ []) }
+{
     let mut entropy = reliable();
-    let Ok(bench) = format(alloc, blank_bench(alloc)?, &keys, &mut entropy) else {
+    let Ok(bench) = format(alloc, blank_bench(alloc)?, keys, &mut entropy) else {
         bail!("not formatted")
     };
-    match mount(alloc, bench, &keys, &mut entropy) {
+    match mount(alloc, bench, keys, &mut entropy) {
         Ok(opening) => Ok(opening),
         Err(_) => bail!("not mounted"),
     }
@@ -74,13 +77,14 @@ fn new_store(alloc: Global) -> anyhow::Result<Opening<MemFile, CardPort>> {
 /// Serves so many short reads of an object, each behind a seek, and tells how many events there were.
 pub fn serve_reads(alloc: Global, reads: u32) -> anyhow::Result<u64> {
     let applications = [AppId::from_uuid(Uuid::from_bytes([1; 16]))];
+    let keys = simulator_keys();
     let steps = steps(alloc, reads)?;
-    let entropy: ListEntropy = reliable();
+    let opening = new_store(alloc, &keys)?;
     match serve_serially(
         alloc,
-        new_store(alloc)?,
-        &simulator_keys(),
-        &entropy,
+        opening,
+        &keys,
+        &reliable(),
         &applications,
         steps.as_slice(),
     ) {
