@@ -1,6 +1,6 @@
 // Short reads of an open object, served on one thread.
 
-ghost use Rattle.std.specs.Prelude.{◌≡◌, [], IfOk};
+ghost use Rattle.std.specs.Prelude.{◌≡◌, [], IfOk, OnOk};
 ghost use Rattle.script_text.specs.declared.script.Step.TheVariants.{Call as CallStep};
 ghost use Rattle.object_calls.specs.Opening.{IsKeyed};
 ghost use Rattle.run_acts.specs.ServedSteps.{AreCalls};
@@ -12,7 +12,7 @@ use object_calls::{Closed, Opening, format, mount};
 use run_acts::serve_serially;
 use script_text::Step;
 use std::alloc::Global;
-use tee_types::{AppId, Bytes, Call, Flags, OVERWRITE, ObjectId, READ, Whence};
+use tee_types::{AppId, Bytes, Call, Flags, NoMemory, OVERWRITE, ObjectId, READ, Whence};
 use trial_runs::{CardPort, blank_bench, reliable, simulator_keys};
 use uuid::Uuid;
 
@@ -28,33 +28,52 @@ fn step(call: Call) -> Step
     Step::Call { app: 0, call }
 }
 
-// The object is made, and read so many times, each time behind a seek to its beginning.
-fn steps(alloc: Global, reads: u32) -> anyhow::Result<Vec<Step>>
-    ensures { IfOk result (λ steps. AreCalls 1 steps.items) }
-{
+// The bytes of the object.
+fn object_bytes(alloc: Global) -> anyhow::Result<Bytes> {
+    let data = vec![in alloc; 7u8; SIZE]?;
+    Ok(Bytes::from_slice(alloc, &data)?)
+}
+
+// The call that makes the object.
+fn creation(alloc: Global) -> anyhow::Result<Call> {
     let Ok(id) = ObjectId::new(b"read") else {
         bail!("no identifier")
     };
-    let data = vec![in alloc; 7u8; SIZE]?;
-    let mut steps = Vec::new(alloc);
-    steps.push(step(Call::Create {
+    Ok(Call::Create {
         id,
         flags: Flags {
             bits: READ | OVERWRITE,
         },
         attributes: Bytes::empty(alloc),
-        bytes: Bytes::from_slice(alloc, &data)?,
+        bytes: object_bytes(alloc)?,
+    })
+}
+
+// A read, behind a seek to the object's beginning.
+fn push_read(steps: &mut Vec<Step>) -> Result<(), NoMemory>
+    requires { AreCalls 1 steps.old.items }
+    ensures { OnOk result (AreCalls 1 steps.new.items) }
+{
+    steps.push(step(Call::Seek {
+        handle: 0,
+        offset: 0,
+        whence: Whence::Set,
     }))?;
-    for _ in 0..reads {
-        steps.push(step(Call::Seek {
-            handle: 0,
-            offset: 0,
-            whence: Whence::Set,
-        }))?;
-        steps.push(step(Call::Read {
-            handle: 0,
-            size: READ_SIZE,
-        }))?;
+    steps.push(step(Call::Read {
+        handle: 0,
+        size: READ_SIZE,
+    }))?;
+    Ok(())
+}
+
+// The object is made, and read so many times.
+fn steps(alloc: Global, reads: u32) -> anyhow::Result<Vec<Step>>
+    ensures { IfOk result (λ steps. AreCalls 1 steps.items) }
+{
+    let mut steps = Vec::new(alloc);
+    steps.push(step(creation(alloc)?))?;
+    for _i in 0..reads {
+        push_read(&mut steps)?;
     }
     Ok(steps)
 }
