@@ -52,6 +52,14 @@ fn format_blank<F: StoreFile + Drop, R: RpmbPort + Drop, E: Entropy>(
     }
 }
 
+// Why a call was given up, without a computed tag.
+fn untold<F: Drop, R: Drop>(halted: Halted<F, R>) -> MountFault
+    ensures { IsUntagged result }
+{
+    let Halted { fault, .. } = halted;
+    fault.without_computed_tag()
+}
+
 // Formats the store where it is new, and mounts it.
 fn open_store<F: StoreFile + Drop, R: RpmbPort + Drop, E: Entropy>(
     alloc: Global,
@@ -69,11 +77,11 @@ fn open_store<F: StoreFile + Drop, R: RpmbPort + Drop, E: Entropy>(
 {
     let bench = match format_blank(alloc, devices, keys, entropy) {
         Ok(bench) => bench,
-        Err(Halted { fault, .. }) => return Err(fault.without_computed_tag()),
+        Err(halted) => return Err(untold(halted)),
     };
     match mount(alloc, bench, keys, entropy) {
         Ok(opening) => Ok(opening),
-        Err(Halted { fault, .. }) => Err(fault.without_computed_tag()),
+        Err(halted) => Err(untold(halted)),
     }
 }
 

@@ -11,4 +11,4 @@ returns c =
     let iv = c.args.iv.now in
     let aad = c.args.aad.now in
     let text = c.args.text.now in
-    c.seal.ensures.tag ∙ ap (gcm_tag e iv aad) (c.seal.ensures.text ∙ ap (gcm_text e iv) c.seal-_tag.ensures.text ∙ gcm_text-gcm_text e iv text)
+    c.seal.ensures.tag ∙ ap (gcm_tag e iv aad) (c.seal.ensures.text ∙ ap (gcm_text e iv) c.seal-tag.ensures.text ∙ gcm_text-gcm_text e iv text)
