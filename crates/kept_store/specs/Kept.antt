@@ -1,6 +1,7 @@
 -- What is opened, over a port that tells its card, and a file of the directory that can be followed.
-use Rattle.std.specs.Prelude.{◌≡◌, ◌<◌, ℕ, List, Option, Some, IfSome, Ok, Err, IsTrue}
+use Rattle.std.specs.Prelude.{◌≡◌, ◌⊎◌, ◌<◌, ℕ, List, [], length, Option, Some, IfSome, Ok, Err, IsTrue}
 use Rattle.disk_model.specs.State.{FileState}
+use Rattle.disk_model.specs.Calls.{Rests}
 use Rattle.node_image.specs.Selection.{bytes_at}
 use Rattle.htree_file.specs.Standing.{Told}
 use Rattle.hmac_keys.specs.declared.Keys.{Keys}
@@ -15,8 +16,10 @@ use Rattle.crash_core.specs.Mounting.{mounted}
 use Rattle.crash_core.specs.Opening.{opening_map, reads_of}
 use Rattle.crash_core.specs.Pictures.{block_zero}
 use Rattle.object_calls.specs.Opening.{OpeningValue, bench_files, entries_in}
+use Rattle.object_calls.specs.OpeningFiles.{files_of}
+use Rattle.object_calls.specs.declared.bench.Bench.{Bench}
 use Rattle.tee_types.specs.declared.reply.Cause.TheVariants.{Fault}
-use Rattle.tee_types.specs.declared.reply.Device.TheVariants.{Card}
+use Rattle.tee_types.specs.declared.reply.Device.TheVariants.{Card, Dir}
 use Rattle.store_commit.specs.declared.fault.MountFault.TheVariants.{Failed}
 use Rattle.kept_store.specs.declared.fault.OpenFault.{OpenFault}
 use Rattle.kept_store.specs.declared.fault.OpenFault.TheVariants.{Block, Store}
@@ -63,10 +66,16 @@ pub record WritesFirst (card : CardState) (new : PortState) (block : List ℕ) :
   pub told : new.card ≡ Some (written_card card 0 0 block)
   pub stands : HasBlock new.card block
 
+-- the card that a port tells with this key names no store
+abbrev pub HasBlankCard : PortState → (key : List ℕ) → Type 0
+HasBlankCard port key = (card : CardState) → HasCard port key card → IsBlank (block_zero card)
+
 -- What becomes of the card before the store is opened: one that was written stays, and one that was not has the block that was exported.
+-- No card that names a store becomes blank.
 pub record TakesOver (old new : PortState) (key : List ℕ) (exported : FileState) : Type 0 where
   pub stays : (card : CardState) → HasCard old key card → 0 < card.counter → new.card ≡ old.card
   pub takes : (card : CardState) → NamesExport old key exported card → WritesFirst card new (bytes_at exported.reads 0 256)
+  pub blank : HasBlankCard new key → HasBlankCard old key
 
 -- where the card names a store, this
 abbrev pub KeepsStore : PortState → (key : List ℕ) → Type 0 → Type 0
@@ -79,3 +88,40 @@ IfBlock Holds fault = Unit {0}
 
 abbrev pub card_failed : ℕ → OpenFault
 card_failed count = Store (Failed (Fault Card count))
+
+abbrev pub directory_failed : ℕ → OpenFault
+directory_failed count = Store (Failed (Fault Dir count))
+
+-- it names one
+abbrev pub HasNamingCard : PortState → (key : List ℕ) → Type 0
+HasNamingCard port key = (card : CardState) → HasCard port key card → ¬ IsBlank (block_zero card)
+
+-- nothing is changed: each file rests, and the card is as it was
+pub record RestsDevices {F R : Type 0} (state : F → FileState) (port : R → PortState) (old new : Bench F R) : Type 0 where
+  pub files : (number : ℕ) → Rests (files_of state old.files.items number) (files_of state new.files.items number)
+  pub card : (port new.card).card ≡ (port old.card).card
+
+-- a directory's file that can be followed has no bytes
+abbrev pub IsEmpty : (old new : FileState) → Type 0
+IsEmpty old new = Told old new → old.reads ≡ []
+
+-- a blank card stands beside a directory's file that has bytes, where it can be followed
+pub record LacksCard (port : PortState) (key : List ℕ) (old new : FileState) : Type 0 where
+  pub blank : HasBlankCard port key
+  pub bytes : Told old new → 0 < length old.reads
+
+-- where the card names no store, this
+abbrev pub FindsBlank : PortState → (key : List ℕ) → Type 0 → Type 0
+FindsBlank port key Then = (card : CardState) → HasCard port key card → IsBlank (block_zero card) → Then
+
+-- beside a directory's file that has bytes, where it can be followed, nothing is changed
+abbrev pub StaysUnmade : {F R : Type 0} → (F → FileState) → (R → PortState) → (old new : Bench F R) → Type 0
+StaysUnmade state port old new =
+    Told (files_of state old.files.items directory_file) (files_of state new.files.items directory_file)
+    → 0 < length (files_of state old.files.items directory_file).reads → RestsDevices state port old new
+
+-- The card names no store, and none waits for it that was exported.
+pub record LacksStore (port : PortState) (key : List ℕ) (exported : FileState) (card : CardState) : Type 0 where
+  pub has : HasCard port key card
+  pub blank : IsBlank (block_zero card)
+  pub alone : (0 < card.counter) ⊎ (IsTrue exported.tells × IsBlank (bytes_at exported.reads 0 256))

@@ -1,6 +1,7 @@
 //! Why a store in a folder is not opened.
 
 use host_card::CardFault;
+use object_calls::Bench;
 use store_commit::MountFault;
 
 /// Why a store in a folder is not opened.
@@ -8,6 +9,8 @@ use store_commit::MountFault;
 pub enum OpenFault {
     /// No card was read from the file that keeps it.
     Card(CardFault),
+    /// The card has no store, but the directory's file has bytes: so there was a store, and its card is not this one.
+    CardMissing,
     /// The file of an exported block failed.
     Block {
         /// Its count of faults.
@@ -15,4 +18,13 @@ pub enum OpenFault {
     },
     /// The card failed, or the store was not formatted or mounted.
     Store(MountFault),
+}
+
+/// Devices on which no store was opened, and why.
+#[derive(Drop)]
+pub struct Unopened<F, R> {
+    /// The devices.
+    pub devices: Bench<F, R>,
+    /// Why.
+    pub fault: OpenFault,
 }

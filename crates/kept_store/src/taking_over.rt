@@ -1,11 +1,12 @@
 //! Taking over a store that was exported: its block is put into a card that was never written.
 
-ghost use Rattle.std.specs.Prelude.{◌≡◌, ◌↔◌, IfErr, IsTrue, OnOk};
+ghost use Rattle.std.specs.Prelude.{◌≡◌, ◌≢◌, ◌↔◌, IfErr, IsTrue, OnOk};
 ghost use Rattle.disk_model.specs.Calls.{Rests};
 ghost use Rattle.htree_file.specs.Answers.{FileFailed};
 ghost use Rattle.rpmb_card.specs.Card.{CardState};
 ghost use Rattle.rpmb_host.specs.Honest.{HasCard};
-ghost use Rattle.kept_store.specs.Kept.{IfBlock, IsBlank, TakesOver, WritesFirst, card_failed};
+ghost use Rattle.kept_store.specs.declared.fault.OpenFault.TheVariants.{CardMissing};
+ghost use Rattle.kept_store.specs.Kept.{IfBlock, IsBlank, LacksStore, TakesOver, WritesFirst, card_failed};
 
 use crate::fault::OpenFault;
 use folder_audit::read_block;
@@ -32,6 +33,9 @@ pub(crate) fn take_over<G: StoreFile, R: RpmbPort, E: Entropy>(
     ensures rests { Rests (G.state exported.old) (G.state exported.new) }
     ensures takes { OnOk result (TakesOver (R.state host.old.port) (R.state host.new.port) host.old.key (G.state exported.new)) }
     ensures failed { IfErr result (IfBlock (λ count. FileFailed (G.state exported.old) (G.state exported.new) count)) }
+    ensures named { IfErr result (λ fault. fault ≢ CardMissing) }
+    ensures alone { (card : CardState) → LacksStore (R.state host.old.port) host.old.key (G.state exported.new) card
+        → (R.state host.new.port).card ≡ (R.state host.old.port).card }
 {
     let counter = match read_card(host, entropy) {
         Ok(CardRead { counter, .. }) => counter,
@@ -70,6 +74,7 @@ fn write_first<R: RpmbPort>(host: &mut Host<R>, block: &[u8; 256]) -> Result<(),
     ensures writes { OnOk result ((card : CardState) → HasCard (R.state host.old.port) host.old.key card → card.counter ≡ 0
         → WritesFirst card (R.state host.new.port) block.now) }
     ensures store { IfErr result (IfBlock (λ count. ⊥)) }
+    ensures named { IfErr result (λ fault. fault ≢ CardMissing) }
 {
     match host.write_block(0, 0, block) {
         Ok(_) => Ok(()),
