@@ -15,7 +15,7 @@ use Rattle.htree_file.specs.Standing.{Told}
 use Rattle.object_calls.specs.Opening.{OpeningValue, bench_files}
 use Rattle.object_calls.specs.OpeningFiles.{files_of}
 use Rattle.object_calls.specs.declared.bench.Bench.{Bench}
-use Rattle.kept_store.specs.Kept.{HasBlock, IsBlank, KeepsStore, LacksStore, OpensExport, OpensStore, StaysUnmade, TakesOver}
+use Rattle.kept_store.specs.Kept.{HasBlock, IsBlank, KeepsStore, NamesNoExport, OpensExport, OpensStore, StaysUnmade, TakesOver}
 
 -- what was mounted on the devices as they are is what they were handed in as
 pub kept_mounted : {F R : Type 0} (state : F → FileState) (keys : Keys) (o : OpeningValue F R) (key : List ℕ) (given kept : List F) (p0 p1 : PortState)
@@ -26,29 +26,28 @@ kept_mounted state keys o key given kept p0 p1 same mounts = λ card has named t
     mounts (subst (λ (files : List _). Told (files_of state files directory_file) (bench_files state o directory_file)) (sym are.0) told) held
     (record { told = are.1 ∙ has_held.told; keyed = has_held.keyed })
 
-module _ {F R : Type 0} (state : F → FileState) (dir : FileState) (keys : Keys) (o : OpeningValue F R) (p0 p1 : PortState) (exported : FileState)
-    (takes : TakesOver p0 p1 (rpmb_key keys.huk) exported) (mounts : KeepsStore p1 (rpmb_key keys.huk) (MountsAsRead state dir p1 keys o)) where
+module _ {F R : Type 0} (state : F → FileState) (dir : FileState) (keys : Keys) (o : OpeningValue F R) (p0 p1 : PortState) (file left : FileState)
+    (takes : TakesOver p0 p1 (rpmb_key keys.huk) file left) (mounts : KeepsStore p1 (rpmb_key keys.huk) (MountsAsRead state dir p1 keys o)) where
   pub opens_store : OpensStore state dir p0 keys o
   opens_store = λ told card names.
       let has : HasCard p1 (rpmb_key keys.huk) card = record { told = takes.stays card names.has names.written ∙ names.has.told; keyed = names.has.keyed } in
       mounts card has names.named told card has
 
-  pub opens_export : OpensExport state dir p0 exported keys o
-  opens_export = λ told card names.
-      let block : List ℕ = bytes_at exported.reads 0 256 in
-      let wrote = takes.takes card names in
-      let has : HasCard p1 (rpmb_key keys.huk) (written_card card 0 0 block) = record { told = wrote.told; keyed = names.has.keyed } in
-      let stands : block_zero (written_card card 0 0 block) ≡ block = subst (λ c. HasBlock c block) wrote.told wrote.stands in
-      mounts (written_card card 0 0 block) has (subst (λ (b : List ℕ). ¬ IsBlank b) (sym stands) names.named) told (written_card card 0 0 block) has
+  pub opens_export : OpensExport state dir p0 file left keys o
+  opens_export = λ card names. (
+    takes.emptied card names,
+    λ told.
+        let block : List ℕ = bytes_at file.reads 0 256 in
+        let wrote = takes.takes card names in
+        let has : HasCard p1 (rpmb_key keys.huk) (written_card card 0 0 block) = record { told = wrote.told; keyed = names.has.keyed } in
+        let stands : block_zero (written_card card 0 0 block) ≡ block = subst (λ c. HasBlock c block) wrote.told wrote.stands in
+        mounts (written_card card 0 0 block) has (subst (λ (b : List ℕ). ¬ IsBlank b) (sym stands) names.named) told (written_card card 0 0 block) has,
+  )
 
--- where no store is and none was exported, the card stays
-abbrev pub StaysAlone : (old new : PortState) (key : List ℕ) (exported : FileState) → Type 0
-StaysAlone old new key exported = (card : CardState) → LacksStore old key exported card → new.card ≡ old.card
-
--- it is the same one when the store is looked for
-pub lacks_still : (p0 p1 : PortState) (key : List ℕ) (exported : FileState) (card : CardState)
-    → p1.card ≡ p0.card → LacksStore p0 key exported card → HasCard p1 key card
-lacks_still p0 p1 key exported card same lacks = record { told = same ∙ lacks.has.told; keyed = lacks.has.keyed }
+-- where no block waits for the card, it is the same one when the store is looked for
+pub lacks_still : (p0 p1 : PortState) (key : List ℕ) (file left : FileState) (card : CardState)
+    → p1.card ≡ p0.card → NamesNoExport p0 key file left card → HasCard p1 key card
+lacks_still p0 p1 key file left card same names = record { told = same ∙ names.has.told; keyed = names.has.keyed }
 
 -- so nothing is changed of what was handed in
 pub unmade_before : {F R : Type 0} (state : F → FileState) (port : R → PortState) (first mid last : Bench F R) → mid.files ≡ first.files

@@ -1,6 +1,6 @@
 //! Opening a store: a new one, one that was closed, or one that was exported.
 
-ghost use Rattle.std.specs.Prelude.{◌≡◌, [], false, vec_len, IfErr, IfOk, IsTrue, OnErr};
+ghost use Rattle.std.specs.Prelude.{◌≡◌, [], false, vec_len, IfErr, IfOk, IsTrue, OnErr, OnOk};
 ghost use Rattle.disk_model.specs.Calls.{GoesOn, Rests};
 ghost use Rattle.htree_file.specs.Answers.{FileFailed};
 ghost use Rattle.hmac_keys.specs.KeyTable.{rpmb_key};
@@ -10,7 +10,7 @@ ghost use Rattle.object_calls.specs.Begins.{IsWholeOpening, MountsAsRead};
 ghost use Rattle.object_calls.specs.Opening.{IsKeyed, bench_files};
 ghost use Rattle.object_calls.specs.OpeningFiles.{files_of};
 ghost use Rattle.kept_store.specs.declared.fault.OpenFault.TheVariants.{CardMissing};
-ghost use Rattle.kept_store.specs.Kept.{FindsBlank, IfBlock, IsEmpty, KeepsStore, LacksCard, LacksStore, OpensExport, OpensStore, RestsDevices, StaysUnmade};
+ghost use Rattle.kept_store.specs.Kept.{FindsBlank, IfBlock, IsEmpty, KeepsStore, LacksCard, LacksStore, NamesNoExport, OpensExport, OpensStore, RestsDevices, RestsOrEmptied, StaysUnmade};
 
 use crate::devices::{FolderDevices, folder_devices};
 use crate::fault::{OpenFault, Unopened};
@@ -97,7 +97,7 @@ fn open_store<F: StoreFile + Drop, R: RpmbPort + Drop, E: Entropy>(
 }
 
 /// Opens a store on its devices; the card has its key. Where the card was never written and the file of an exported block has one, that block
-/// is put into the card: so a store that was exported goes on from there. Where the card's block 0 is all zero and the directory's file has no
+/// is put into the card, and its file is left without bytes: so a store that was exported goes on from there, once. Where the card's block 0 is all zero and the directory's file has no
 /// bytes, a store is made.
 ///
 /// # Errors
@@ -117,15 +117,20 @@ pub fn open_devices<F: StoreFile + Drop, R: RpmbPort + Drop, G: StoreFile, E: En
     ensures opens { IfOk result (λ o. IsWholeOpening F.state R.state o) }
     ensures store { IfOk result (λ o. OpensStore F.state (files_of F.state devices.files.items directory_file) (R.state devices.card) keys.now o) }
     ensures exported { IfOk result (λ o. OpensExport F.state (files_of F.state devices.files.items directory_file) (R.state devices.card)
-        (G.state exported.new) keys.now o) }
-    ensures rests { Rests (G.state exported.old) (G.state exported.new) }
+        (G.state exported.old) (G.state exported.new) keys.now o) }
+    ensures block { OnOk result (RestsOrEmptied (G.state exported.old) (G.state exported.new)) }
+    ensures rests { (card : CardState) → NamesNoExport (R.state devices.card) (rpmb_key keys.now.huk) (G.state exported.old) (G.state exported.new) card
+        → Rests (G.state exported.old) (G.state exported.new) }
+    ensures goes_on { GoesOn (G.state exported.old) (G.state exported.new) }
     ensures failed { IfErr result (λ u. IfBlock (λ count. FileFailed (G.state exported.old) (G.state exported.new) count) u.fault) }
 
     // Where there is no store, and none was exported, a store is made only over a directory's file that has no bytes; beside one that has
     // bytes nothing is changed.
-    ensures made { IfOk result (λ o. (card : CardState) → LacksStore (R.state devices.card) (rpmb_key keys.now.huk) (G.state exported.new) card
+    ensures made { IfOk result (λ o. (card : CardState) → LacksStore (R.state devices.card) (rpmb_key keys.now.huk)
+        (G.state exported.old) (G.state exported.new) card
         → IsEmpty (files_of F.state devices.files.items directory_file) (bench_files F.state o directory_file)) }
-    ensures refused { IfErr result (λ u. (card : CardState) → LacksStore (R.state devices.card) (rpmb_key keys.now.huk) (G.state exported.new) card
+    ensures refused { IfErr result (λ u. (card : CardState) → LacksStore (R.state devices.card) (rpmb_key keys.now.huk)
+        (G.state exported.old) (G.state exported.new) card
         → StaysUnmade F.state R.state devices u.devices) }
     ensures missing { IfErr result (λ u. u.fault ≡ CardMissing → LacksCard (R.state devices.card) (rpmb_key keys.now.huk)
         (files_of F.state devices.files.items directory_file) (files_of F.state u.devices.files.items directory_file)) }
