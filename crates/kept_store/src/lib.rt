@@ -10,9 +10,10 @@
 
 mod devices;
 mod fault;
+mod finding;
 mod opening;
 mod taking_over;
 
 pub use devices::{CARD_FILE, FolderDevices, folder_devices};
-pub use fault::OpenFault;
+pub use fault::{OpenFault, Unopened};
 pub use opening::{FolderOpening, open_devices, open_folder};
