@@ -8,10 +8,10 @@ ghost use Rattle.host_folder.specs.Folder.{file_path, folder_file};
 
 use std::alloc::Global;
 use std::fs::{File, Files, OpenOptions};
-use std::io;
 use std::io::ErrorKind;
 use std::marker::Model;
 use std::os::unix::fs::FileExt;
+use std::{fs, io};
 use tee_ports::{Failed, NoMemory, StoreFile};
 
 /// The file `NNN.bin` of a folder of the host, where `NNN` is its number with three digits.
@@ -70,6 +70,19 @@ impl<'a, R: Files<File = File>> FolderFile<'a, R> {
             syncs: 0,
             sync_failed: false,
         })
+    }
+
+    /// How many bytes the system's file has; of one that is not there, none. Nothing is opened or made.
+    ///
+    /// # Errors
+    ///
+    /// The system refused to tell it.
+    pub fn len_there(&self) -> io::Result<u64> {
+        match fs::metadata(self.rt, self.path.as_str()) {
+            Ok(metadata) => Ok(metadata.len()),
+            Err(error) if error.kind() == ErrorKind::NotFound => Ok(0),
+            Err(error) => Err(error),
+        }
     }
 
     // Opens the system's file, where it is not open yet.
@@ -243,7 +256,7 @@ impl<'a, R: Files<File = File>> StoreFile for FolderFile<'a, R> {
 mod tests {
     use super::*;
     use std::test::Fail;
-    use std::{env, fs, process};
+    use std::{env, process};
 
     fn leave_a_gap<F: StoreFile>(file: &mut F) -> Result<(), Failed> {
         file.write_at(0, b"abcd")?;
@@ -265,6 +278,7 @@ mod tests {
         let folder = env::temp_dir(&rt)?.join(rt.alloc(), name.as_str())?;
         let mut missing = FolderFile::new(&rt, rt.alloc(), folder.as_str(), 7)?;
         assert_eq!(rt; missing.len(), Err(Failed { count: 1 }));
+        assert_eq!(rt; missing.len_there()?, 0);
 
         fs::create_dir(&rt, folder.as_path())?;
         let mut file = FolderFile::new(&rt, rt.alloc(), folder.as_str(), 7)?;
@@ -272,6 +286,7 @@ mod tests {
         let written = leave_a_gap(&mut file);
         let read = read_back(&mut again);
         let length = again.len();
+        let there = again.len_there();
         let path = folder.join(rt.alloc(), "007.bin")?;
         let stored = fs::read(&rt, path.as_path());
         fs::remove_dir_all(&rt, folder.as_path())?;
@@ -279,6 +294,7 @@ mod tests {
         assert_eq!(rt; written, Ok(()));
         assert_eq!(rt; read, Ok((7, *b"b\0\0\0xyz")));
         assert_eq!(rt; length, Ok(8));
+        assert_eq!(rt; there?, 8);
         assert_eq!(rt; stored?.as_slice(), b"ab\0\0\0xyz".as_slice());
         Ok(())
     }

@@ -1,12 +1,13 @@
 //! The store of a folder, opened for what is asked, and closed again.
 
-ghost use Rattle.std.specs.Prelude.{◌≡◌, IfOk};
+ghost use Rattle.std.specs.Prelude.{◌≡◌, [], IfOk};
+ghost use Rattle.object_calls.specs.Opening.{IsKeyed};
 ghost use Rattle.run_acts.specs.ServedSteps.{AreCalls};
 
 use crate::asked::Asked;
 use anyhow::bail;
 use hmac_keys::Keys;
-use kept_store::{FolderOpening, OpenFault, open_folder};
+use kept_store::{FolderOpening, OpenFault, open_folder_store, open_or_create_folder_store};
 use object_calls::Closed;
 use run_acts::serve_serially;
 use seed_words::SeedEntropy;
@@ -58,6 +59,23 @@ fn reply_text(alloc: Global, reply: &Reply) -> anyhow::Result<String> {
     }
 }
 
+// The store of a folder. A put makes it where there is none.
+fn open_store<'a, W: Files<File = File> + AllocGlobal>(
+    rt: &'a W,
+    folder: &str,
+    asked: Asked,
+    keys: &Keys,
+    entropy: &mut SeedEntropy,
+) -> Result<FolderOpening<'a, W>, OpenFault>
+    ensures keyed { IfOk result (λ o. IsKeyed keys.now o) }
+    ensures unopened { IfOk result (λ o. o.applications ≡ []) }
+{
+    match asked {
+        Asked::Put { .. } => open_or_create_folder_store(rt, rt.alloc(), folder, keys, entropy),
+        Asked::Get { .. } => open_folder_store(rt, rt.alloc(), folder, keys, entropy),
+    }
+}
+
 /// Opens the store in a folder, makes the calls that are asked, closes the store, and says what came of it: the text that was read,
 /// `ok`, or the reply of the call that was not done.
 pub fn answer<W: Files<File = File> + AllocGlobal>(
@@ -70,7 +88,7 @@ pub fn answer<W: Files<File = File> + AllocGlobal>(
     let calls = asked.calls(alloc)?;
     let keys = device_keys();
     let mut entropy = entropy;
-    let opening = match open_folder(rt, alloc, folder, &keys, &mut entropy) {
+    let opening = match open_store(rt, folder, asked, &keys, &mut entropy) {
         Ok(opening) => opening,
         Err(fault) => bail!("the store in {folder} is not opened: {fault:?}"),
     };

@@ -12,9 +12,18 @@ use store_commit::MountFault;
 /// Why a store in a folder is not opened.
 #[derive(Clone, Copy, Debug, PartialEq, Eq)]
 pub enum OpenFault {
+    /// The folder's name is empty.
+    NoName,
+    /// The system did not tell what lies in the folder.
+    Unreadable,
+    /// The folder has no store.
+    NoStore,
+    /// The folder has a store, or a part of one.
+    Exists,
     /// No card was read from the file that keeps it.
     Card(CardFault),
-    /// The card has no store, but the directory's file has bytes: so there was a store, and its card is not this one.
+    /// The card has no store, but the directory's file has bytes: so there was a store, and its
+    /// card is not this one.
     CardMissing,
     /// The file of an exported block failed.
     Block {

@@ -45,12 +45,13 @@ fn failed_directory(count: u64) -> OpenFault
     }))
 }
 
-/// Finds out whether the store on its devices has to be made: the card's block 0 is all zero, and the directory's file has no bytes. Nothing is
-/// changed.
+/// Finds out whether the store on its devices has to be made: the card's block 0 is all zero, and
+/// the directory's file has no bytes. Nothing is changed.
 ///
 /// # Errors
 ///
-/// `CardMissing` where the block is all zero and the directory's file has bytes. `Store` where a draw, the card or that file failed.
+/// `CardMissing` where the block is all zero and the directory's file has bytes. `Store` where a
+/// draw, the card or that file failed.
 pub(crate) fn find_store<F: StoreFile + Drop, R: RpmbPort + Drop, E: Entropy>(
     devices: Bench<F, R>,
     keys: &Keys,

@@ -12,23 +12,15 @@ ghost use Rattle.object_calls.specs.OpeningFiles.{files_of};
 ghost use Rattle.kept_store.specs.declared.fault.OpenFault.TheVariants.{CardMissing};
 ghost use Rattle.kept_store.specs.Kept.{FindsBlank, IfBlock, IsEmpty, KeepsStore, LacksCard, LacksStore, NamesNoExport, OpensExport, OpensStore, RestsDevices, RestsOrEmptied, StaysUnmade, TellsNoTag};
 
-use crate::devices::{FolderDevices, folder_devices};
 use crate::fault::{OpenFault, Unopened, given_up};
 use crate::finding::{Found, find_store};
-use crate::taking_over::{BLOCK_FILE, take_over};
+use crate::taking_over::take_over;
 use hmac_keys::{Keys, rpmb_key};
-use host_card::KeptCard;
-use host_folder::FolderFile;
 use object_calls::{Bench, Halted, Opening, format, mount};
 use rpmb_card::RpmbPort;
 use rpmb_host::Host;
 use std::alloc::Global;
-use std::fs::{File, Files};
-use store_commit::MountFault;
 use tee_ports::{Entropy, StoreFile};
-
-/// A store in a folder that is mounted.
-pub type FolderOpening<'a, W> = Opening<FolderFile<'a, W>, KeptCard<FolderFile<'a, W>>>;
 
 // Makes the store where it is new.
 fn format_new<F: StoreFile + Drop, R: RpmbPort + Drop, E: Entropy>(
@@ -89,15 +81,17 @@ fn open_store<F: StoreFile + Drop, R: RpmbPort + Drop, E: Entropy>(
     }
 }
 
-/// Opens a store on its devices; the card has its key. Where the card was never written and the file of an exported block has one, that block
-/// is put into the card, and its file is left without bytes: so a store that was exported goes on from there, once. Where the card's block 0
-/// is all zero and the directory's file has no bytes, a store is made.
+/// Opens a store on its devices; the card has its key. Where the card was never written and the
+/// file of an exported block has one, that block is put into the card, and its file is left without
+/// bytes: so a store that was exported goes on from there, once. Where the card's block 0 is all
+/// zero and the directory's file has no bytes, a store is made.
 ///
 /// # Errors
 ///
-/// `CardMissing` where the block is all zero and the directory's file has bytes: nothing is changed then. `Block` where the file of the exported
-/// block failed. `Store` where the card or the directory's file failed, or as the format and the mount say, without a
-/// computed tag. The devices are given back.
+/// `CardMissing` where the block is all zero and the directory's file has bytes: nothing is changed
+/// then. `Block` where the file of the exported block failed. `Store` where the card or the
+/// directory's file failed, or as the format and the mount say, without a computed tag. The
+/// devices are given back.
 pub fn open_devices<F: StoreFile + Drop, R: RpmbPort + Drop, G: StoreFile, E: Entropy>(
     alloc: Global,
     devices: Bench<F, R>,
@@ -119,8 +113,8 @@ pub fn open_devices<F: StoreFile + Drop, R: RpmbPort + Drop, G: StoreFile, E: En
     ensures failed { IfErr result (λ u. IfBlock (λ count. FileFailed (G.state exported.old) (G.state exported.new) count) u.fault) }
     ensures untagged { IfErr result (λ u. TellsNoTag u.fault) }
 
-    // Where there is no store, and none was exported, a store is made only over a directory's file that has no bytes; beside one that has
-    // bytes nothing is changed.
+    // Where there is no store, and none was exported, a store is made only over a directory's file
+    // that has no bytes; beside one that has bytes nothing is changed.
     ensures made { IfOk result (λ o. (card : CardState) → LacksStore (R.state devices.card) (rpmb_key keys.now.huk)
         (G.state exported.old) (G.state exported.new) card
         → IsEmpty (files_of F.state devices.files.items directory_file) (bench_files F.state o directory_file)) }
@@ -138,42 +132,5 @@ pub fn open_devices<F: StoreFile + Drop, R: RpmbPort + Drop, G: StoreFile, E: En
     match taken {
         Ok(()) => open_store(alloc, devices, keys, entropy),
         Err(fault) => Err(Unopened { devices, fault }),
-    }
-}
-
-// Why no store was opened. The devices are let go.
-fn why<F: Drop, R: Drop>(unopened: Unopened<F, R>) -> OpenFault
-    ensures { result ≡ unopened.fault }
-{
-    let Unopened { fault, .. } = unopened;
-    fault
-}
-
-/// Opens the store in a folder that is there: a new one, one that was closed, or one that was exported into it.
-///
-/// # Errors
-///
-/// `Card` where no card was read from its file, as in a folder that is missing; else as `open_devices` says.
-pub fn open_folder<'a, W: Files<File = File>, E: Entropy>(
-    rt: &'a W,
-    alloc: Global,
-    folder: &str,
-    keys: &Keys,
-    entropy: &mut E,
-) -> Result<FolderOpening<'a, W>, OpenFault>
-    ensures keyed { IfOk result (λ o. IsKeyed keys.now o) }
-    ensures unopened { IfOk result (λ o. o.applications ≡ []) }
-    ensures untagged { IfErr result TellsNoTag }
-{
-    let devices = match folder_devices(rt, alloc, folder, rpmb_key(keys).bytes()) {
-        Ok(devices) => devices,
-        Err(fault) => return Err(fault),
-    };
-    let Ok(mut exported) = FolderFile::new(rt, alloc, folder, BLOCK_FILE) else {
-        return Err(OpenFault::Store(MountFault::NoMemory));
-    };
-    match open_devices(alloc, devices, &mut exported, keys, entropy) {
-        Ok(opening) => Ok(opening),
-        Err(unopened) => Err(why(unopened)),
     }
 }

@@ -19,12 +19,14 @@ use tee_types::{Cause, Device};
 /// The number of the file into which an export puts the card's block 0.
 pub(crate) const BLOCK_FILE: u16 = 274;
 
-/// Puts an exported block into a card that was never written, where there is one, and cuts it off in its file: it is taken once.
+/// Puts an exported block into a card that was never written, where there is one, and cuts it off
+/// in its file: it is taken once.
 ///
 /// # Errors
 ///
-/// `Block` where the file failed; `Store` where the card did, or its answer is refused. Where the file failed behind the card's write, the
-/// block stays there, and is not taken again: the card is written then.
+/// `Block` where the file failed; `Store` where the card did, or its answer is refused. Where the
+/// file failed behind the card's write, the block stays there, and is not taken again: the card is
+/// written then.
 pub(crate) fn take_over<G: StoreFile, R: RpmbPort, E: Entropy>(
     host: &mut Host<R>,
     exported: &mut G,
