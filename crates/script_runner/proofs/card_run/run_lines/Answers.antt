@@ -22,7 +22,7 @@ returns g c = λ first lasts.
       calm = c.in-Err.ensures.calm;
       reliable = λ r. (c.in-Err.ensures.reliable_err (lasts r)).1;
     } in
-    let is_host = c.new.ensures ∙ (λ i. record { port = c.args.card; key = c.rpmb_key-key.ensures i }) in
+    let is_host = c.new.ensures ∙ (λ i. record { port = c.args.card; key = (c.copy.ensures ∙ c.rpmb_key-key.ensures) i }) in
     let refuses : RefusesMount reliable key (devices (port c.args.card) 0) (devices (port c.into_port.result) drawn) h.fault =
     subst (λ p. RefusesMount reliable key (devices (port c.args.card) 0) (devices (port p) drawn) h.fault) (sym c.into_port.ensures)
     (subst (λ n. RefusesMount reliable key (devices (port c.args.card) n) (devices (port h.host.port) drawn) h.fault) c.requires
