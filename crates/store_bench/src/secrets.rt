@@ -74,37 +74,46 @@ fn unverified(key: &[u8; 32], frame: &[u8; 512]) -> bool {
     verify(frame, key).is_err()
 }
 
-// Each kind of work once, under the secrets of that number. What came out, in one value.
-fn work(number: u8) -> [u8; 32] {
+// Two digests, one after the other.
+fn joined(first: &[u8; 32], second: &[u8; 32]) -> [u8; 64] {
+    let mut both = [0; 64];
+    both[..32].copy_from_slice(first);
+    both[32..].copy_from_slice(second);
+    both
+}
+
+// A text sealed, refused under a tag that differs in one bit, and opened. What came out, in one value.
+fn seal_work(number: u8) -> [u8; 32] {
     let key = expanded(&half(&secret(number, 1)));
     let mut text = text_of(number);
     let tag = sealed(&key, &mut text);
     let mut other = tag;
-    let at = usize::from(number % 16);
-    other[at] ^= 1;
-    let mut said = [0; 64];
-    said[0] = u8::from(refused(&key, &mut text, &other));
-    said[1] = u8::from(unsealed(&key, &mut text, &tag));
+    other[usize::from(number % 16)] ^= 1;
+    let refused = refused(&key, &mut text, &other);
+    let opened = unsealed(&key, &mut text, &tag);
+    hmac(&tag, &[u8::from(refused), u8::from(opened)])
+}
+
+// A key wrapped and unwrapped, a frame refused, a text signed. What came out, in one value.
+fn key_work(number: u8) -> [u8; 32] {
     let tsk = secret(number, 2);
     let block = wrapped(&tsk, &half(&secret(number, 3)));
     let fek = unwrapped(&tsk, &block);
     let mut frame = [number; 512];
     frame[196..228].copy_from_slice(&secret(number, 4));
-    said[2] = u8::from(unverified(&tsk, &frame));
-    said[3..19].copy_from_slice(&tag);
-    said[19..35].copy_from_slice(&block);
-    said[35..51].copy_from_slice(&fek);
-    signed(&tsk, &said)
+    let refused = unverified(&tsk, &frame);
+    signed(
+        &tsk,
+        &joined(&hmac(&block, &fek), &hmac(&[1], &[u8::from(refused)])),
+    )
 }
 
 /// What came out of all work with a hundred secrets, in one value.
 pub fn digest() -> [u8; 32] {
     let mut digest = [0; 32];
     for number in 0..SECRETS {
-        let mut both = [0; 64];
-        both[..32].copy_from_slice(&digest);
-        both[32..].copy_from_slice(&work(number));
-        digest = hmac(&[0], &both);
+        let both = joined(&seal_work(number), &key_work(number));
+        digest = hmac(&digest, &both);
     }
     digest
 }
