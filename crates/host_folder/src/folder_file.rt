@@ -7,7 +7,7 @@ ghost use Rattle.tee_ports.specs.Files.{ActsByArms, HasCause};
 ghost use Rattle.host_folder.specs.Folder.{file_path, folder_file};
 
 use std::alloc::Global;
-use std::fs::{File, Files, OpenOptions};
+use std::fs::{File, Files, OpenOptions, TryLockError};
 use std::io::ErrorKind;
 use std::marker::Model;
 use std::os::unix::fs::FileExt;
@@ -82,6 +82,23 @@ impl<'a, R: Files<File = File>> FolderFile<'a, R> {
             Ok(metadata) => Ok(metadata.len()),
             Err(error) if error.kind() == ErrorKind::NotFound => Ok(0),
             Err(error) => Err(error),
+        }
+    }
+
+    /// Locks the system's file for as long as it is open, and tells whether it did: it does not where
+    /// somebody else has it locked. It is opened for it, and made where it is not there; its bytes stay.
+    ///
+    /// # Errors
+    ///
+    /// The system refused to open it, or to lock it at all.
+    pub fn try_lock(&mut self) -> io::Result<bool>
+        ensures same { self.new ≡ self.old }
+    {
+        self.open()?;
+        match self.opened()?.try_lock() {
+            Ok(()) => Ok(true),
+            Err(TryLockError::WouldBlock) => Ok(false),
+            Err(TryLockError::Error(error)) => Err(error),
         }
     }
 

@@ -39,7 +39,7 @@ fn folder_files<'a, W: Files<File = File>>(
     Ok(files)
 }
 
-// The card that a file of the folder keeps, with this key.
+// The card that a file of the folder keeps, with this key. The file is locked.
 fn folder_card<'a, W: Files<File = File>>(
     rt: &'a W,
     alloc: Global,
@@ -48,9 +48,14 @@ fn folder_card<'a, W: Files<File = File>>(
 ) -> Result<KeptCard<FolderFile<'a, W>>, OpenFault>
     ensures { IfErr result TellsNoTag }
 {
-    let Ok(file) = FolderFile::new(rt, alloc, folder, CARD_FILE) else {
+    let Ok(mut file) = FolderFile::new(rt, alloc, folder, CARD_FILE) else {
         return Err(OpenFault::Store(MountFault::NoMemory));
     };
+    match file.try_lock() {
+        Ok(true) => {}
+        Ok(false) => return Err(OpenFault::Busy),
+        Err(_) => return Err(OpenFault::Unlocked),
+    }
     let mut card = match KeptCard::open(alloc, file) {
         Ok(card) => card,
         Err(broken) => return Err(OpenFault::Card(broken.fault)),
@@ -61,12 +66,14 @@ fn folder_card<'a, W: Files<File = File>>(
     }
 }
 
-/// The devices of the store in a folder. A file of the store is opened, or made, at the first call that needs it; the card is read from its
-/// file here, and has this key from then on, unless it had another.
+/// The devices of the store in a folder. A file of the store is opened, or made, at the first call that
+/// needs it. The card's file is locked here for as long as the devices live, and the card is read from
+/// it; it has this key from then on, unless it had another.
 ///
 /// # Errors
 ///
-/// `Card` where no card was read from its file, as in a folder that is missing; `Store` where the card failed, or memory ran out.
+/// `Busy` where somebody else has them; `Unlocked`; `Card` where no card was read from its file;
+/// `Store` where the card failed, or memory ran out.
 pub fn folder_devices<'a, W: Files<File = File>>(
     rt: &'a W,
     alloc: Global,

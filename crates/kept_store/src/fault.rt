@@ -20,6 +20,10 @@ pub enum OpenFault {
     NoStore,
     /// The folder has a store, or a part of one.
     Exists,
+    /// Somebody else has the store open.
+    Busy,
+    /// The system did not open the card's file, as in a folder that is missing, or gave no lock on it.
+    Unlocked,
     /// No card was read from the file that keeps it.
     Card(CardFault),
     /// The card has no store, but the directory's file has bytes: so there was a store, and its

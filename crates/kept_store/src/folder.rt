@@ -108,8 +108,9 @@ fn open_folder<'a, W: Files<File = File>, E: Entropy>(
 /// # Errors
 ///
 /// The first that holds: `NoName`; `Unreadable`; `NoStore`, and no file is made then; `CardMissing`
-/// where there is a directory without a card, and nothing is changed; `Card` where no card was read
-/// from its file; else as `open_devices` says.
+/// where there is a directory without a card, and nothing is changed; `Busy` where somebody else has
+/// the store open; `Unlocked`; `Card` where no card was read from its file; else as `open_devices`
+/// says.
 pub fn open_folder_store<'a, W: Files<File = File>, E: Entropy>(
     rt: &'a W,
     alloc: Global,
@@ -135,8 +136,8 @@ pub fn open_folder_store<'a, W: Files<File = File>, E: Entropy>(
 /// # Errors
 ///
 /// The first that holds: `NoName`; `Unreadable`; `Exists` where a card, an exported block or a
-/// directory is there, and nothing is changed; `Card` where no card was read from its file, as in a
-/// folder that is missing; else as `open_devices` says.
+/// directory is there, and nothing is changed; `Busy` where somebody else makes one; `Unlocked`, as in
+/// a folder that is missing; `Card` where no card was read from its file; else as `open_devices` says.
 pub fn create_folder_store<'a, W: Files<File = File>, E: Entropy>(
     rt: &'a W,
     alloc: Global,
@@ -161,8 +162,8 @@ pub fn create_folder_store<'a, W: Files<File = File>, E: Entropy>(
 /// # Errors
 ///
 /// The first that holds: `NoName`; `Unreadable`; `CardMissing` where there is a directory without a
-/// card, and nothing is changed; `Card` where no card was read from its file, as in a folder that
-/// is missing; else as `open_devices` says.
+/// card, and nothing is changed; `Busy` where somebody else has the store open; `Unlocked`, as in a
+/// folder that is missing; `Card` where no card was read from its file; else as `open_devices` says.
 pub fn open_or_create_folder_store<'a, W: Files<File = File>, E: Entropy>(
     rt: &'a W,
     alloc: Global,

@@ -8,8 +8,8 @@
 //! `Done` is in the folder, and the next process opens it.
 //!
 //! A card that a file keeps gives no protection from older copies: whoever puts an older folder
-//! back puts the older card back with it. In a device a real card stands in its place. Nor does
-//! anything keep two processes from opening one folder at once: see to that.
+//! back puts the older card back with it. In a device a real card stands in its place. The card's
+//! file is locked for as long as a store is open: who opens it meanwhile by these calls is told so.
 #![tactic(auto)]
 
 mod devices;
