@@ -3,7 +3,7 @@
 --
 -- The standard leaves some of this free. What is marked 'ours' is this card's own choice. One choice holds for all: of an
 -- answer each field that is not named is zero (ours).
-use Rattle.std.specs.Prelude.{ℕ, Bool, false, ◌≡◌, ◌==◌, ◌<◌, ◌^◌, ◌+◌, not, ◌||◌, if◌then◌else◌, nat_lt, bit_or, Option, Some, None, is_none, List, [], length, replicate, slice_index_or, slice_set}
+use Rattle.std.specs.Prelude.{ℕ, Bool, false, ◌≡◌, ◌==◌, ◌<◌, ◌^◌, ◌+◌, not, ◌||◌, ◌&&◌, if◌then◌else◌, nat_lt, bit_or, Option, Some, None, is_none, List, [], length, replicate, slice_index_or, slice_set}
 use Rattle.std.specs.Option.{ForSome}
 use Rattle.std.specs.Str.{bytes_eq}
 use Rattle.rpmb_frame.specs.declared.frame.Frame.{Frame}
@@ -36,6 +36,10 @@ zero_blocks = replicate 256 (replicate 256 0)
 abbrev pub blank : CardState
 blank = record { key = None; counter = 0; blocks = zero_blocks; register = None }
 
+-- a card that has this key and was never written
+abbrev pub keyed : List ℕ → CardState
+keyed key = record { key = Some key; counter = 0; blocks = zero_blocks; register = None }
+
 -- a result as it is given: with its bit where the counter has reached its end (ours: by the counter at the time of the
 -- answer, in every result, also in one that an earlier request had)
 abbrev pub given_result : (counter result : ℕ) → ℕ
@@ -58,6 +62,10 @@ write_result s bytes =
     else if not (is_authentic s.key bytes) then authentication_failure
     else if not (f.counter == s.counter) then counter_failure
     else done_result
+
+-- the frame is a write that is done
+abbrev pub does_write : CardState → List ℕ → Bool
+does_write s bytes = (frame_of bytes).kind == write_block_kind && write_result s bytes == done_result
 
 -- the card after a write with this result: only one that is done changes a block, and the counter
 abbrev pub written : CardState → Frame → ℕ → CardState

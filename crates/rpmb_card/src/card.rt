@@ -55,7 +55,8 @@ impl Model for SimCard {
 }
 
 impl SimCard {
-    ghost use Rattle.rpmb_card.specs.Card.{IsCard, blank, zero_blocks, card_answer, card_after, answer_fields, answer_bytes, counter_answer, block_answer, register_answer, read_result, write_result, given_result, is_authentic, programmed, written, carries_mac};
+    ghost use Rattle.std.specs.Prelude.{length, max, slice_set};
+    ghost use Rattle.rpmb_card.specs.Card.{IsCard, blank, keyed, zero_blocks, card_answer, card_after, answer_fields, answer_bytes, counter_answer, block_answer, register_answer, read_result, write_result, does_write, given_result, is_authentic, programmed, written, carries_mac};
 
     /// A card that was never used: it has no key, its counter is 0, its blocks are zero, its register is empty.
     pub fn blank() -> SimCard
@@ -68,6 +69,41 @@ impl SimCard {
             blocks: SimCard::zero_blocks(),
             register: None,
         }
+    }
+
+    /// A card that has this key and was never written: as `blank`, but for the key.
+    pub fn with_key(key: &[u8; 32]) -> SimCard
+        ensures keyed { result ≡ keyed key.now }
+        ensures sound { IsCard result }
+    {
+        SimCard {
+            key: Some(*key),
+            counter: 0,
+            blocks: SimCard::zero_blocks(),
+            register: None,
+        }
+    }
+
+    /// Puts a block where an earlier write put it. The counter is then at least `counter`.
+    pub fn restore(&mut self, address: u8, block: &[u8; 256], counter: u32)
+        ensures restored { self.new ≡ record self.old {
+          blocks = slice_set self.old.blocks address block.now;
+          counter = max self.old.counter counter;
+        } }
+        ensures stays_sound { IsCard self.new }
+    {
+        self.blocks[address as usize] = *block;
+        self.counter = self.counter.max(counter);
+    }
+
+    /// Whether the card will take this frame as a write that is done: then its block changes, and the
+    /// counter rises. Any other frame changes at most the result register, or the key of a card that
+    /// has none.
+    pub fn does_write(&self, frame: &[u8; 512]) -> bool
+        ensures { result ≡ does_write self.now frame.now }
+    {
+        let request = Frame::parse(frame);
+        request.kind == WRITE_BLOCK && self.write_result(frame, &request) == DONE
     }
 
     /// Takes one frame and gives the answer, as the card's table says.
