@@ -4,13 +4,11 @@ ghost use Rattle.aes_block.specs.WrappedKey.{unwrapped_of, wrapped_of, wrapping_
 
 use crate::Aes128;
 
-// The first half of a storage key.
-fn first_half(tsk: &[u8; 32]) -> [u8; 16]
-    ensures { result ≡ wrapping_key tsk.now }
+// The first half of a storage key, where it stands.
+fn first_half(tsk: &[u8; 32]) -> &[u8; 16]
+    ensures { result.now ≡ wrapping_key tsk.now }
 {
-    let mut key = [0; 16];
-    key.copy_from_slice(&tsk[..16]);
-    key
+    tsk.first_chunk().unwrap()
 }
 
 /// The key of a file, `fek` (file encryption key), wrapped under a storage key of 32 bytes, `tsk` (trusted application
@@ -19,7 +17,7 @@ pub fn wrap(tsk: &[u8; 32], fek: &[u8; 16]) -> [u8; 16]
     ensures { result ≡ wrapped_of tsk.now fek.now }
 {
     let mut block = *fek;
-    Aes128::new(&first_half(tsk)).encrypt(&mut block);
+    Aes128::new(first_half(tsk)).encrypt(&mut block);
     block
 }
 
@@ -30,6 +28,6 @@ pub fn unwrap_key(tsk: &[u8; 32], wrapped: &[u8; 16]) -> [u8; 16]
     ensures undoes { (fek : List ℕ) → IsBytes fek → length fek ≡ 16 → wrapped.now ≡ wrapped_of tsk.now fek → result ≡ fek }
 {
     let mut block = *wrapped;
-    Aes128::new(&first_half(tsk)).decrypt(&mut block);
+    Aes128::new(first_half(tsk)).decrypt(&mut block);
     block
 }
