@@ -1,7 +1,7 @@
 -- GHASH of four blocks more, by four powers of the hash subkey.
 use Rattle.std.proofs.Common.{◌≡◌, ℕ, suc, ◌+◌, ◌*◌, ◌^◌, ◌<◌, List, [], ◌∷◌, ◌++◌, length, get_or, bit_xor, refl, sym, ap, ◌∙◌, arith, append_assoc}
 use Rattle.std.proofs.lemmas.Nat.{xor_lt}
-use Rattle.std.specs.Int.Bits.{xor_assoc, xor_comm}
+use Rattle.std.specs.Int.Bits.{xor_assoc}
 use Rattle.ghash_field.specs.Field.{block_product, block_power}
 use Rattle.ghash_field.specs.Ghash.{ghash}
 use Rattle.ghash_field.specs.Polynomial.{product}
@@ -11,7 +11,7 @@ use Rattle.ghash_field.proofs.Division.{double-xor}
 use Rattle.ghash_field.proofs.FieldLaws.{product-comm, product-linear, product-assoc, one-product, ghash-more}
 use Rattle.ghash_field.proofs.Folding.{folded-linear, folded-product, product-below}
 use Rattle.ghash_field.proofs.Reflected.{product-lt}
-use Rattle.ghash_field.proofs.Sums.{IsLinear}
+use Rattle.ghash_field.proofs.Sums.{IsLinear, xor_swap}
 
 -- H ^ 1
 pub power-one : (h : ℕ) → h < 2 ^ 128 → block_power h 1 ≡ h
@@ -84,21 +84,19 @@ unfolding ghash
 ghash-below h [] = omega arith
 ghash-below h (x ∷ xs) = xor_lt 128 _ _ (product-lt x (block_power h (length xs + 1))) (ghash-below h xs)
 
--- the first of four terms comes last
-turned : (a b c d : ℕ) → bit_xor (bit_xor (bit_xor b c) d) a ≡ bit_xor (bit_xor (bit_xor a b) c) d
-turned a b c d =
-    xor_comm (bit_xor (bit_xor b c) d) a
-    ∙ sym (xor_assoc a (bit_xor b c) d) ∙ ap (λ z. bit_xor z d) (sym (xor_assoc a b c))
+-- the four terms in order
+turned : (a b c d : ℕ) → bit_xor (bit_xor a c) (bit_xor b d) ≡ bit_xor (bit_xor (bit_xor a b) c) d
+turned a b c d = xor_swap a c b d ∙ sym (xor_assoc (bit_xor a b) c d)
 
--- the sum of four products of polynomials, the first of them last
+-- the sum of four products of polynomials, the first and third together
 abbrev pub four_polynomials : ℕ → ℕ → ℕ → ℕ → ℕ → ℕ
 four_polynomials h a b c d =
-    bit_xor (bit_xor (bit_xor (product b (block_power h 3)) (product c (block_power h 2))) (product d (block_power h 1))) (product a (block_power h 4))
+    bit_xor (bit_xor (product a (block_power h 4)) (product c (block_power h 2))) (bit_xor (product b (block_power h 3)) (product d (block_power h 1)))
 
 pub four_polynomials-below : (h a b c d : ℕ) → four_polynomials h a b c d < 2 ^ 255
 four_polynomials-below h a b c d =
     let lt : (y k : ℕ) → product y (block_power h k) < 2 ^ 255 = λ y k. product-below y (block_power h k) in
-    xor_lt 255 _ _ (xor_lt 255 _ _ (xor_lt 255 _ _ (lt b 3) (lt c 2)) (lt d 1)) (lt a 4)
+    xor_lt 255 _ _ (xor_lt 255 _ _ (lt a 4) (lt c 2)) (xor_lt 255 _ _ (lt b 3) (lt d 1))
 
 -- it is reduced as a whole
 pub four-folded : (h a b c d : ℕ) → a < 2 ^ 128 → b < 2 ^ 128 → c < 2 ^ 128 → d < 2 ^ 128
@@ -109,10 +107,9 @@ four-folded h a b c d ha hb hc hd =
     let q : ℕ → ℕ → ℕ = λ k y. product y (block_power h k) in
     let one : (k y : ℕ) → y < 2 ^ 128 → l (q (suc k) y) ≡ block_product y (block_power h (suc k)) =
     λ k y lt. folded-product y (block_power h (suc k)) lt (power-below h k) in
-    lin (bit_xor (bit_xor (q 3 b) (q 2 c)) (q 1 d)) (q 4 a)
-    ∙ ap (λ z. bit_xor z (l (q 4 a))) (lin (bit_xor (q 3 b) (q 2 c)) (q 1 d))
-    ∙ ap (λ z. bit_xor (bit_xor z (l (q 1 d))) (l (q 4 a))) (lin (q 3 b) (q 2 c))
-    ∙ (λ i. bit_xor (bit_xor (bit_xor (one 2 b hb i) (one 1 c hc i)) (one 0 d hd i)) (one 3 a ha i))
+    lin (bit_xor (q 4 a) (q 2 c)) (bit_xor (q 3 b) (q 1 d))
+    ∙ (λ i. bit_xor (lin (q 4 a) (q 2 c) i) (lin (q 3 b) (q 1 d) i))
+    ∙ (λ i. bit_xor (bit_xor (one 3 a ha i) (one 1 c hc i)) (bit_xor (one 2 b hb i) (one 0 d hd i)))
     ∙ turned (block_product a (block_power h 4)) (block_product b (block_power h 3)) (block_product c (block_power h 2)) (block_product d (block_power h 1))
 
 -- a list of four

@@ -1,5 +1,5 @@
 -- The product of polynomials by products of their halves.
-use Rattle.std.proofs.Common.{◌≡◌, ℕ, ◌+◌, ◌*◌, ◌/◌, ◌%◌, ◌^◌, ◌<◌, ◌≤◌, List, bit_xor, get_or, replicate, refl, sym, ap, ◌∙◌, arith, mod-lt}
+use Rattle.std.proofs.Common.{◌≡◌, ℕ, ◌+◌, ◌*◌, ◌/◌, ◌%◌, ◌^◌, ◌<◌, ◌≤◌, List, bit_xor, slice_index, refl, sym, ap, ◌∙◌, arith, mod-lt}
 use Rattle.std.proofs.lemmas.Nat.{pow_pos, pow-add, shr_below, shr_split, shl_below, field_of, xor_lt, xor_block, xor_shr, xor_mod}
 use Rattle.std.proofs.Math.Nat.{mod-eq_of_lt}
 use Rattle.std.specs.Int.Bits.{xor_zero_l, xor_zero_r, xor_self, xor_assoc, xor_comm, xor_shifted}
@@ -87,15 +87,14 @@ halved k a b le ha hb =
 
 -- entry k of a polynomial's words
 abbrev pub entry : ℕ → ℕ → ℕ
-entry p k = get_or (words_of p) k 0
+entry p k = slice_index (words_of p) k
+
+-- the polynomial that sums stand for, from a function that has them
+abbrev pub whole_at : (ℕ → ℕ) → ℕ
+whole_at f = joined 64 (joined 32 (f 0) (f 1) (f 6)) (joined 32 (f 2) (f 3) (f 7)) (joined 32 (f 4) (f 5) (f 8))
 
 -- the product of polynomials by the products of their words
-words-product : (a b : ℕ) → a < 2 ^ 128 → b < 2 ^ 128
-    → joined 64
-    (joined 32 (product (entry a 0) (entry b 0)) (product (entry a 1) (entry b 1)) (product (entry a 6) (entry b 6)))
-    (joined 32 (product (entry a 2) (entry b 2)) (product (entry a 3) (entry b 3)) (product (entry a 7) (entry b 7)))
-    (joined 32 (product (entry a 4) (entry b 4)) (product (entry a 5) (entry b 5)) (product (entry a 8) (entry b 8)))
-    ≡ product a b
+words-product : (a b : ℕ) → a < 2 ^ 128 → b < 2 ^ 128 → whole_at (λ k. product (entry a k) (entry b k)) ≡ product a b
 unfolding words_of
 words-product a b ha hb =
     let l : ℕ → ℕ = λ c. c % 2 ^ 64 in
@@ -122,31 +121,40 @@ words-product a b ha hb =
     (ls a ha) (ls b hb) (sumlow a) (sumlow b) (sumhigh a ha) (sumhigh b hb) in
     sym (halved 64 a b (omega arith) ha hb ∙ (λ i. joined 64 (one i) (two i) (all i)))
 
--- the products of two polynomials' words are added to sums
-pub added : (a b : ℕ) (old new x y : List ℕ) → a < 2 ^ 128 → b < 2 ^ 128 → x ≡ words_of a → y ≡ words_of b
-    → ((k : ℕ) → k < 10 → get_or new k 0 ≡ bit_xor (get_or old k 0) (product (get_or x k 0) (get_or y k 0)))
-    → whole_of new ≡ bit_xor (whole_of old) (product a b)
-unfolding whole_of
-added a b old new x y ha hb ea eb sums =
-    let s : ℕ → ℕ = λ k. get_or old k 0 in
-    let t : ℕ → ℕ = λ k. product (entry a k) (entry b k) in
-    let at : (k : ℕ) → k < 10 → get_or new k 0 ≡ bit_xor (s k) (t k) = λ k lt.
-    sums k lt ∙ (λ i. bit_xor (s k) (product (get_or (ea i) k 0) (get_or (eb i) k 0))) in
-    let three : (i j k : ℕ) → i < 10 → j < 10 → k < 10 → joined 32 (get_or new i 0) (get_or new j 0) (get_or new k 0)
-    ≡ bit_xor (joined 32 (s i) (s j) (s k)) (joined 32 (t i) (t j) (t k)) =
-    λ i j k hi hj hk. (λ n. joined 32 (at i hi n) (at j hj n) (at k hk n)) ∙ joined-xor 32 (s i) (s j) (s k) (t i) (t j) (t k) in
-    let one = three 0 1 6 (omega arith) (omega arith) (omega arith) in
-    let two = three 2 3 7 (omega arith) (omega arith) (omega arith) in
-    let all = three 4 5 8 (omega arith) (omega arith) (omega arith) in
-    (λ i. joined 64 (one i) (two i) (all i))
-    ∙ joined-xor 64 (joined 32 (s 0) (s 1) (s 6)) (joined 32 (s 2) (s 3) (s 7)) (joined 32 (s 4) (s 5) (s 8))
-    (joined 32 (t 0) (t 1) (t 6)) (joined 32 (t 2) (t 3) (t 7)) (joined 32 (t 4) (t 5) (t 8))
-    ∙ ap (bit_xor (whole_of old)) (words-product a b ha hb)
+-- a sum of sums, term by term
+whole-xor : (f g : ℕ → ℕ) → whole_at (λ k. bit_xor (f k) (g k)) ≡ bit_xor (whole_at f) (whole_at g)
+whole-xor f g =
+    let three : (i j k : ℕ) → joined 32 (bit_xor (f i) (g i)) (bit_xor (f j) (g j)) (bit_xor (f k) (g k)) ≡ bit_xor (joined 32 (f i) (f j) (f k)) (joined 32 (g i) (g j) (g k)) =
+    λ i j k. joined-xor 32 (f i) (f j) (f k) (g i) (g j) (g k) in
+    (λ n. joined 64 (three 0 1 6 n) (three 2 3 7 n) (three 4 5 8 n))
+    ∙ joined-xor 64 (joined 32 (f 0) (f 1) (f 6)) (joined 32 (f 2) (f 3) (f 7)) (joined 32 (f 4) (f 5) (f 8))
+    (joined 32 (g 0) (g 1) (g 6)) (joined 32 (g 2) (g 3) (g 7)) (joined 32 (g 4) (g 5) (g 8))
 
--- sums of nothing
-pub no_sums : whole_of (replicate 10 0) ≡ 0
-unfolding whole_of joined
-no_sums = refl
+-- sums that are those of a function
+pub whole-same : (f : ℕ → ℕ) (sums : List ℕ) → ((k : ℕ) → k < 9 → slice_index sums k ≡ f k) → whole_of sums ≡ whole_at f
+unfolding whole_of
+whole-same f sums e =
+    λ i. joined 64 (joined 32 (e 0 (omega arith) i) (e 1 (omega arith) i) (e 6 (omega arith) i))
+    (joined 32 (e 2 (omega arith) i) (e 3 (omega arith) i) (e 7 (omega arith) i))
+    (joined 32 (e 4 (omega arith) i) (e 5 (omega arith) i) (e 8 (omega arith) i))
+
+-- the product of the k-th words of two polynomials
+abbrev pub word_product : ℕ → ℕ → ℕ → ℕ
+word_product p q k = product (entry p k) (entry q k)
+
+-- two products
+pub whole-two : (p q r s : ℕ) → p < 2 ^ 128 → q < 2 ^ 128 → r < 2 ^ 128 → s < 2 ^ 128
+    → whole_at (λ k. bit_xor (word_product p r k) (word_product q s k)) ≡ bit_xor (product p r) (product q s)
+whole-two p q r s hp hq hr hs =
+    whole-xor (word_product p r) (word_product q s) ∙ (λ i. bit_xor (words-product p r hp hr i) (words-product q s hq hs i))
+
+-- four products
+pub whole-four : (a b c d e f g h : ℕ) → a < 2 ^ 128 → b < 2 ^ 128 → c < 2 ^ 128 → d < 2 ^ 128 → e < 2 ^ 128 → f < 2 ^ 128 → g < 2 ^ 128 → h < 2 ^ 128
+    → whole_at (λ k. bit_xor (bit_xor (word_product a e k) (word_product c g k)) (bit_xor (word_product b f k) (word_product d h k)))
+    ≡ bit_xor (bit_xor (product a e) (product c g)) (bit_xor (product b f) (product d h))
+whole-four a b c d e f g h ha hb hc hd he hf hg hh =
+    whole-xor (λ k. bit_xor (word_product a e k) (word_product c g k)) (λ k. bit_xor (word_product b f k) (word_product d h k))
+    ∙ (λ i. bit_xor (whole-two a c e g ha hc he hg i) (whole-two b d f h hb hd hf hh i))
 
 -- the terms from x ^ 128 on of what is joined of halves
 pub joined-high : (l h b : ℕ) → l < 2 ^ 128 → joined 64 l h b / 2 ^ 128 ≡ bit_xor h (bit_xor (bit_xor l h) b / 2 ^ 64)

@@ -11,6 +11,7 @@ pub mod FieldLaws
 pub mod BitSteps
 pub mod BlockSteps
 pub mod Halves
+pub mod WordSums
 pub mod Folding
 pub mod Shifts
 pub mod FourBlocks

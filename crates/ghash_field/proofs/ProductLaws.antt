@@ -84,6 +84,10 @@ product-bit p (suc zero) hp lt =
     product-times p 1 hp (omega arith) ∙ times-one double 128 p double-powers hp ∙ sym e
 product-bit p (suc (suc t)) hp lt = absurd (omega arith)
 
+-- a product by no polynomial
+pub product-none : (q : ℕ) → q < 2 ^ 128 → product 0 q ≡ 0
+product-none q lt = product-commutes 0 q (omega arith) lt ∙ product-bit q 0 lt (omega arith) ∙ omega arith
+
 -- a power of x goes outside a product
 pub product-shift : (p q k : ℕ) → p < 2 ^ 128 → q * 2 ^ k < 2 ^ 128 → product p (q * 2 ^ k) ≡ product p q * 2 ^ k
 product-shift p q k hp hq =

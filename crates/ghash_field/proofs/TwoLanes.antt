@@ -1,13 +1,13 @@
 -- Vectors of two lanes, lane by lane.
-use Rattle.std.proofs.Common.{◌≡◌, ℕ, zero, suc, ◌*◌, ◌%◌, ◌^◌, ◌<◌, List, [], ◌∷◌, length, replicate, slice_index, bit_and, bit_xor, refl, sym, ap, ◌∙◌, arith}
+use Rattle.std.proofs.Common.{◌≡◌, ℕ, zero, suc, ◌*◌, ◌%◌, ◌^◌, ◌<◌, List, [], ◌∷◌, length, replicate, slice_index, bit_and, bit_xor, refl, sym, ap, subst, ◌∙◌, arith}
 use Rattle.std.specs.Prelude.{slice_index_or}
 use lib.Lanes.{zip2}
 use Rattle.std.proofs.Math.Nat.{mod-eq_of_lt}
 use Rattle.std.proofs.lemmas.Simd.{get_or-zip2, length-zip2, get_or-replicate}
 use Rattle.std.proofs.lemmas.Nat.{mul-lt}
-use Rattle.ghash_field.specs.Holes.{part, sum_of_four, lane, AreWords, AreParts, sum_of_products}
+use Rattle.ghash_field.specs.Holes.{part, sum_of_four, lane, settled_lane, AreAdded, AreTwoWords, AreVectors, AreWords, AreParts, sum_of_products}
 use Rattle.ghash_field.specs.Polynomial.{product}
-use Rattle.ghash_field.proofs.WordParts.{product-diagonals}
+use Rattle.ghash_field.proofs.WordParts.{and_xor, part-lt, product-diagonals, sums_two}
 
 pub length-op : (f : ℕ → ℕ → ℕ) (a b : List ℕ) → length a ≡ 2 → length b ≡ 2 → length (zip2 f a b) ≡ 2
 length-op f a b la lb = length-zip2 f a b (la ∙ sym lb) ∙ la
@@ -35,7 +35,7 @@ masked-lane : (a : List ℕ) (m k : ℕ) → k < 2 → length a ≡ 2 → slice_
 masked-lane a m k low long = lane-op bit_and a (replicate 2 m) k low long refl ∙ ap (bit_and (slice_index a k)) (get_or-replicate 2 k m 0 low)
 
 -- a fact of each number below 4
-four_cases : (P : ℕ → Type 0) → P 0 → P 1 → P 2 → P 3 → (j : ℕ) → j < 4 → P j
+pub four_cases : (P : ℕ → Type 0) → P 0 → P 1 → P 2 → P 3 → (j : ℕ) → j < 4 → P j
 four_cases P p0 p1 p2 p3 zero lt = p0
 four_cases P p0 p1 p2 p3 (suc zero) lt = p1
 four_cases P p0 p1 p2 p3 (suc (suc zero)) lt = p2
@@ -62,7 +62,7 @@ wrapped_same : (a b : ℕ) → a < 2 ^ 32 → b < 2 ^ 32 → wrapped a b ≡ a *
 unfolding wrapped
 wrapped_same a b ha hb = mod-eq_of_lt (mul-lt a b (2 ^ 32) (2 ^ 32) ha hb)
 
-module _ (x y : List (List ℕ)) (wx : AreWords x) (wy : AreWords y) (places : ℕ) where
+module _ (x y : List (List ℕ)) (wx : AreWords x) (wy : AreWords y) where
   unfoldable pub times : ℕ → List ℕ
   times j = zip2 (λ a b. a * b % 2 ^ 64) (slice_index_or x j []) (slice_index_or y j [])
 
@@ -79,30 +79,20 @@ module _ (x y : List (List ℕ)) (wx : AreWords x) (wy : AreWords y) (places : �
   unfoldable pub sum : List ℕ
   sum = zip2 bit_xor (zip2 bit_xor (zip2 bit_xor (times 0) (times 1)) (times 2)) (times 3)
 
-  sum-long : length sum ≡ 2
+  pub sum-long : length sum ≡ 2
   unfolding sum
   sum-long = length-four bit_xor (times 0) (times 1) (times 2) (times 3)
       (times-long 0 (omega arith)) (times-long 1 (omega arith)) (times-long 2 (omega arith)) (times-long 3 (omega arith))
 
-  unfoldable pub sum_masked : List ℕ
-  unfolding sum times
-  sum_masked = zip2 bit_and sum (replicate 2 places)
-
-  pub sum_masked-long : length sum_masked ≡ 2
-  unfolding sum_masked
-  sum_masked-long = masked-long sum places sum-long
-
-  pub sum_masked-lane : (k : ℕ) → k < 2 → slice_index sum_masked k ≡ bit_and (sum_of_products x y k) places
-  unfolding sum_masked sum
-  sum_masked-lane k low =
-      masked-lane sum places k low sum-long
-      ∙ ap (λ s. bit_and s places) (
+  pub sum-lane : (k : ℕ) → k < 2 → slice_index sum k ≡ sum_of_products x y k
+  unfolding sum
+  sum-lane k low =
       four_lanes bit_xor (times 0) (times 1) (times 2) (times 3) k low
       (times-long 0 (omega arith)) (times-long 1 (omega arith)) (times-long 2 (omega arith)) (times-long 3 (omega arith))
-      ∙ (λ i. sum_of_four (times-lane 0 k (omega arith) low i) (times-lane 1 k (omega arith) low i) (times-lane 2 k (omega arith) low i) (times-lane 3 k (omega arith) low i)))
+      ∙ (λ i. sum_of_four (times-lane 0 k (omega arith) low i) (times-lane 1 k (omega arith) low i) (times-lane 2 k (omega arith) low i) (times-lane 3 k (omega arith) low i))
 
 -- the product in a lane, from four sums of products of parts
-pub joined : (x y : List ℕ) (p q : List (List ℕ)) (k : ℕ) → k < 2 → AreParts x p → AreParts y q → slice_index x k < 2 ^ 32 → slice_index y k < 2 ^ 32
+joined : (x y : List ℕ) (p q : List (List ℕ)) (k : ℕ) → k < 2 → AreParts x p → AreParts y q → slice_index x k < 2 ^ 32 → slice_index y k < 2 ^ 32
     → let l = λ (i j : ℕ). lane p i k * lane q j k in
     sum_of_four (bit_and (sum_of_four (l 0 0) (l 1 3) (l 2 2) (l 3 1)) 0x1111_1111_1111_1111)
     (bit_and (sum_of_four (l 0 1) (l 1 0) (l 2 3) (l 3 2)) 0x2222_2222_2222_2222)
@@ -117,3 +107,53 @@ joined x y p q k low px py hx hy =
     (bit_and (sum_of_four (each 0 2 (omega arith) (omega arith) n) (each 1 1 (omega arith) (omega arith) n) (each 2 0 (omega arith) (omega arith) n) (each 3 3 (omega arith) (omega arith) n)) 0x4444_4444_4444_4444)
     (bit_and (sum_of_four (each 0 3 (omega arith) (omega arith) n) (each 1 2 (omega arith) (omega arith) n) (each 2 1 (omega arith) (omega arith) n) (each 3 0 (omega arith) (omega arith) n)) 0x8888_8888_8888_8888))
     ∙ product-diagonals (slice_index x k) (slice_index y k) hx hy
+
+-- the parts of words are words
+pub parts-words : (x : List ℕ) (p : List (List ℕ)) → AreTwoWords x → AreParts x p → AreWords p
+parts-words x p words parts = λ j low. (
+  (parts j low).0,
+  λ k small. subst (λ n. n < 2 ^ 32) (sym ((parts j low).1 k small)) (part-lt (slice_index x k) j (words.1 k small)),
+)
+
+-- four vectors of words in another order
+abbrev pub ordered : List (List ℕ) → ℕ → ℕ → ℕ → ℕ → List (List ℕ)
+ordered p a b c d = slice_index_or p a [] ∷ slice_index_or p b [] ∷ slice_index_or p c [] ∷ slice_index_or p d [] ∷ []
+
+pub ordered-words : (p : List (List ℕ)) (a b c d : ℕ) → a < 4 → b < 4 → c < 4 → d < 4 → AreWords p → AreWords (ordered p a b c d)
+ordered-words p a b c d la lb lc ld words =
+    four_cases (λ j. AreTwoWords (slice_index_or (ordered p a b c d) j [])) (words a la) (words b lb) (words c lc) (words d ld)
+
+-- a vector of two lanes that has the sums of the products of p by q
+abbrev pub AreSums : List (List ℕ) → List (List ℕ) → List ℕ → Type 0
+AreSums p q t = (length t ≡ 2) × ((k : ℕ) → k < 2 → slice_index t k ≡ sum_of_products p q k)
+
+-- a sum is cut to its places before or after another is added
+cut_sum : (s t : List ℕ) (k n m : ℕ) → k < 2 → length s ≡ 2 → length t ≡ 2 → slice_index t k ≡ n
+    → bit_and (slice_index (zip2 bit_xor s t) k) m ≡ bit_xor (bit_and (slice_index s k) m) (bit_and n m)
+cut_sum s t k n m low ls lt e =
+    ap (λ v. bit_and v m) (lane-op bit_xor s t k low ls lt ∙ ap (bit_xor (slice_index s k)) e) ∙ and_xor (slice_index s k) n m
+
+-- the products of x by y are added to four sums
+pub sums_added : (s p q : List (List ℕ)) (x y t0 t1 t2 t3 : List ℕ)
+    → AreVectors s → AreTwoWords x → AreTwoWords y → AreParts x p → AreParts y q
+    → AreSums p (ordered q 0 3 2 1) t0 → AreSums p (ordered q 1 0 3 2) t1 → AreSums p (ordered q 2 1 0 3) t2 → AreSums p (ordered q 3 2 1 0) t3
+    → let v = λ (j : ℕ). slice_index_or s j [] in
+    AreAdded s (zip2 bit_xor (v 0) t0 ∷ zip2 bit_xor (v 1) t1 ∷ zip2 bit_xor (v 2) t2 ∷ zip2 bit_xor (v 3) t3 ∷ []) x y
+sums_added s p q x y t0 t1 t2 t3 vectors wx wy px py e0 e1 e2 e3 =
+    let v : ℕ → List ℕ = λ j. slice_index_or s j [] in
+    let after : List (List ℕ) = zip2 bit_xor (v 0) t0 ∷ zip2 bit_xor (v 1) t1 ∷ zip2 bit_xor (v 2) t2 ∷ zip2 bit_xor (v 3) t3 ∷ [] in (
+      four_cases (λ j. length (slice_index_or after j []) ≡ 2)
+          (length-op bit_xor (v 0) t0 (vectors 0 (omega arith)) e0.0) (length-op bit_xor (v 1) t1 (vectors 1 (omega arith)) e1.0)
+          (length-op bit_xor (v 2) t2 (vectors 2 (omega arith)) e2.0) (length-op bit_xor (v 3) t3 (vectors 3 (omega arith)) e3.0),
+      λ k low.
+          let old : ℕ → ℕ → ℕ = λ j m. bit_and (lane s j k) m in
+          let more : ℕ → ℕ → ℕ → ℕ → ℕ → ℕ = λ a b c d m. bit_and (sum_of_products p (ordered q a b c d) k) m in
+          (λ i. sum_of_four
+          (cut_sum (v 0) t0 k _ 0x1111_1111_1111_1111 low (vectors 0 (omega arith)) e0.0 (e0.1 k low) i)
+          (cut_sum (v 1) t1 k _ 0x2222_2222_2222_2222 low (vectors 1 (omega arith)) e1.0 (e1.1 k low) i)
+          (cut_sum (v 2) t2 k _ 0x4444_4444_4444_4444 low (vectors 2 (omega arith)) e2.0 (e2.1 k low) i)
+          (cut_sum (v 3) t3 k _ 0x8888_8888_8888_8888 low (vectors 3 (omega arith)) e3.0 (e3.1 k low) i))
+          ∙ sym (sums_two (old 0 0x1111_1111_1111_1111) (old 1 0x2222_2222_2222_2222) (old 2 0x4444_4444_4444_4444) (old 3 0x8888_8888_8888_8888)
+          (more 0 3 2 1 0x1111_1111_1111_1111) (more 1 0 3 2 0x2222_2222_2222_2222) (more 2 1 0 3 0x4444_4444_4444_4444) (more 3 2 1 0 0x8888_8888_8888_8888))
+          ∙ ap (bit_xor (settled_lane s k)) (joined x y p q k low px py (wx.1 k low) (wy.1 k low)),
+    )

@@ -135,7 +135,7 @@ min_sum : (a b m : ℕ) → a < 2 → b < 2 → m < 2 → min ((a + b) % 2) m �
 min_sum a b m ha hb hm = omega arith
 
 -- `&` distributes over the sum
-and_xor : (a b m : ℕ) → bit_and (bit_xor a b) m ≡ bit_xor (bit_and a m) (bit_and b m)
+pub and_xor : (a b m : ℕ) → bit_and (bit_xor a b) m ≡ bit_xor (bit_and a m) (bit_and b m)
 and_xor a b m = same_from_bits _ _ (λ i.
     bit_at_and (bit_xor a b) m i ∙ ap (λ t. min t (bit_at m i)) (bit_at_xor a b i)
     ∙ min_sum (bit_at a i) (bit_at b i) (bit_at m i) (bit_at-lt a i) (bit_at-lt b i) (bit_at-lt m i)
@@ -160,7 +160,7 @@ turn : (a b c d : ℕ) → sum_of_four a b c d ≡ sum_of_four d a b c
 turn a b c d = xor_comm (bit_xor (bit_xor a b) c) d ∙ sym (xor_assoc d (bit_xor a b) c) ∙ ap (λ s. bit_xor s c) (sym (xor_assoc d a b))
 
 -- two sums of four, term by term
-sums_two : (a b c d e f g h : ℕ) → bit_xor (sum_of_four a b c d) (sum_of_four e f g h) ≡ sum_of_four (bit_xor a e) (bit_xor b f) (bit_xor c g) (bit_xor d h)
+pub sums_two : (a b c d e f g h : ℕ) → bit_xor (sum_of_four a b c d) (sum_of_four e f g h) ≡ sum_of_four (bit_xor a e) (bit_xor b f) (bit_xor c g) (bit_xor d h)
 sums_two a b c d e f g h =
     xor_swap (bit_xor (bit_xor a b) c) d (bit_xor (bit_xor e f) g) h
     ∙ ap (λ s. bit_xor s (bit_xor d h)) (xor_swap (bit_xor a b) c (bit_xor e f) g ∙ ap (λ s. bit_xor s (bit_xor c g)) (xor_swap a b e f))

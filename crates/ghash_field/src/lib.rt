@@ -10,11 +10,13 @@ ghost use Rattle.std.specs.Int.{w128, from_be_bytes, to_be_bytes};
 ghost use Rattle.ghash_field.specs.Field.{block_product};
 ghost use Rattle.ghash_field.specs.Ghash.{ghash};
 ghost use Rattle.ghash_field.specs.Hasher.{Holds};
-ghost use Rattle.ghash_field.specs.Words.{words_of};
+ghost use Rattle.ghash_field.specs.Words.{AreLaneParts};
 ghost use Rattle.ghash_field.specs.Steps.{block_step};
 
+use carryless::parts_of;
 use reduction::block_of;
-use words::{Words, add_products, whole_of, words_of};
+use std::simd::prelude::*;
+use words::{LaneParts, lane_parts_of, sum_of_four, sum_of_two, whole_of, words_of};
 
 mod carryless;
 mod reduction;
@@ -60,21 +62,19 @@ pub fn ghash_steps()
     ensures next { (h x : ℕ) (xs : List ℕ) → h < 2 ^ 128 → ghash h (xs ++ x ∷ []) ≡ block_product (bit_xor (ghash h xs) x) h }
 {}
 
-// The product of a block and of one whose words are given.
-fn times(a: u128, words: &Words) -> u128
-    ensures { (h : ℕ) → h < 2 ^ 128 → words.now ≡ words_of h → result ≡ block_product a h }
+// The product of a block by the second of two blocks whose words' parts are given.
+fn times(a: u128, parts: &LaneParts) -> u128
+    ensures { (g h : ℕ) → g < 2 ^ 128 → h < 2 ^ 128 → AreLaneParts g h parts.now → result ≡ block_product a h }
 {
-    let mut sums = [0; 10];
-    add_products(&mut sums, &words_of(a), words);
-    let (high, low) = whole_of(&sums);
+    let (high, low) = whole_of(&sum_of_two(&words_of(0, a), parts));
     block_of(high, low)
 }
 
 /// GHASH of a run of blocks under one hash subkey, block by block or four blocks at once.
 #[derive(Drop)]
 pub struct Ghash {
-    // The words of H, H^2, H^3 and H^4.
-    powers: [Words; 4],
+    // The parts of the words of H^4 and H^3, and of those of H^2 and H.
+    powers: [LaneParts; 2],
     sum: u128,
 }
 
@@ -93,7 +93,7 @@ impl Ghash {
         ensures { Holds result 0 [] }
     {
         Ghash {
-            powers: [[0; 10]; 4],
+            powers: [[parts_of(u64x2::splat(0)); 9]; 2],
             sum: 0,
         }
     }
@@ -102,11 +102,12 @@ impl Ghash {
     pub fn begin(&mut self, h: u128)
         ensures { Holds self.new h [] }
     {
-        let first = words_of(h);
+        let first = lane_parts_of(0, h);
         let square = times(h, &first);
         let cube = times(square, &first);
         let fourth = times(cube, &first);
-        self.powers = [first, words_of(square), words_of(cube), words_of(fourth)];
+        let powers = [lane_parts_of(fourth, cube), lane_parts_of(square, h)];
+        self.powers = powers;
         self.sum = 0;
     }
 
@@ -121,32 +122,20 @@ impl Ghash {
     pub fn update(&mut self, block: &[u8; 16])
         ensures { (h : ℕ) (xs : List ℕ) → Holds self.old h xs → Holds self.new h (xs ++ from_be_bytes w128 block.now ∷ []) }
     {
-        self.sum = times(self.sum ^ u128::from_be_bytes(*block), &self.powers[0]);
+        self.sum = times(self.sum ^ u128::from_be_bytes(*block), &self.powers[1]);
     }
 
     /// Takes in four blocks, in less time than one by one: each is multiplied by its own power of H,
-    /// and only the sum of the products is reduced. The first waits for the sum so far, so it is last.
+    /// and only the sum of the products is reduced.
     pub fn update_four(&mut self, blocks: &[[u8; 16]; 4])
         ensures { (h : ℕ) (xs : List ℕ) → Holds self.old h xs → Holds self.new h (xs ++ map (from_be_bytes w128) blocks.now) }
     {
-        let mut sums = [0; 10];
-        add_products(
-            &mut sums,
-            &words_of(u128::from_be_bytes(blocks[1])),
-            &self.powers[2],
-        );
-        add_products(
-            &mut sums,
-            &words_of(u128::from_be_bytes(blocks[2])),
-            &self.powers[1],
-        );
-        add_products(
-            &mut sums,
-            &words_of(u128::from_be_bytes(blocks[3])),
-            &self.powers[0],
-        );
         let first = self.sum ^ u128::from_be_bytes(blocks[0]);
-        add_products(&mut sums, &words_of(first), &self.powers[3]);
+        let second = u128::from_be_bytes(blocks[1]);
+        let third = u128::from_be_bytes(blocks[2]);
+        let fourth = u128::from_be_bytes(blocks[3]);
+        let words = [words_of(first, second), words_of(third, fourth)];
+        let sums = sum_of_four(&words, &self.powers);
         let (high, low) = whole_of(&sums);
         self.sum = block_of(high, low);
     }

@@ -5,57 +5,90 @@
 // the length. The halves are multiplied so again. A table that is read at a place which depends on
 // the numbers, or a branch on their bits, would show in the time that it takes; here is neither.
 
-ghost use Rattle.std.specs.Prelude.{◌≡◌, ℕ, ◌+◌, ◌*◌, ◌/◌, ◌%◌, ◌<◌, ◌^◌, List, bit_xor, length, slice_index};
-ghost use Rattle.ghash_field.specs.Words.{words_of, joined, whole_of};
+ghost use Rattle.std.specs.Prelude.{◌≡◌, ℕ, ◌/◌, ◌%◌, ◌<◌, ◌^◌, [], bit_xor, slice_index_or};
+ghost use Rattle.ghash_field.specs.Words.{AreLaneParts, AreLanes, joined, whole_of};
 ghost use Rattle.ghash_field.specs.Polynomial.{product};
 
-use crate::carryless::carryless;
+use crate::carryless::{Parts, add_products, no_products, parts_of, settled};
 use std::simd::prelude::*;
 
-/// A polynomial's four words, the lowest first, and the sums of them that are multiplied as well.
-/// The last entry is 0, and fills the fifth pair.
-pub(crate) type Words = [u32; 10];
+/// The four words of two polynomials, the lowest first, and the sums of them that are multiplied as well. The first
+/// polynomial's are in the first lane.
+pub(crate) type Lanes = [u64x2; 9];
 
-/// The products of two polynomials' words, entry by entry, or sums of such products.
-pub(crate) type Sums = [u64; 10];
+/// The parts of each of these words.
+pub(crate) type LaneParts = [Parts; 9];
 
-fn word(polynomial: u128, place: u32) -> u32
-    requires { place < 128 }
-    ensures { result ≡ polynomial / 2 ^ place % 2 ^ 32 }
+/// Sums of products, one for each word.
+pub(crate) type Sums = [u64; 9];
+
+#[inline(always)]
+fn low_half(p: u128) -> u64
+    ensures { result ≡ p % 2 ^ 64 }
 {
-    ((polynomial >> place) & 0xffff_ffff) as u32
+    (p & 0xffff_ffff_ffff_ffff) as u64
 }
 
-pub(crate) fn words_of(polynomial: u128) -> Words
-    ensures { result ≡ words_of polynomial }
+#[inline(always)]
+pub(crate) fn words_of(p: u128, q: u128) -> Lanes
+    ensures { AreLanes p q result }
 {
-    let a = word(polynomial, 0);
-    let b = word(polynomial, 32);
-    let c = word(polynomial, 64);
-    let d = word(polynomial, 96);
-    [a, b, c, d, a ^ c, b ^ d, a ^ b, c ^ d, (a ^ c) ^ (b ^ d), 0]
+    let low = u64x2::from_array([low_half(p), low_half(q)]);
+    let high = u64x2::from_array([(p >> 64) as u64, (q >> 64) as u64]);
+    let a = low & u64x2::splat(0xffff_ffff);
+    let b = low >> u64x2::splat(32);
+    let c = high & u64x2::splat(0xffff_ffff);
+    let d = high >> u64x2::splat(32);
+    [a, b, c, d, a ^ c, b ^ d, a ^ b, c ^ d, (a ^ c) ^ (b ^ d)]
 }
 
-// Two neighbouring words, as lanes.
-fn pair(words: &Words, k: usize) -> u64x2
-    requires { k < 5 }
-    ensures long { length result ≡ 2 }
-    ensures low { (j : ℕ) → j < 2 → slice_index result j < 2 ^ 32 }
-    ensures value { (j : ℕ) → j < 2 → slice_index result j ≡ slice_index words.now (2 * k + j) }
+/// The parts of the words of two polynomials.
+pub(crate) fn lane_parts_of(p: u128, q: u128) -> LaneParts
+    ensures { AreLaneParts p q result }
 {
-    u64x2::from_array([words[2 * k] as u64, words[2 * k + 1] as u64])
+    let [w0, w1, w2, w3, w4, w5, w6, w7, w8] = words_of(p, q);
+    [
+        parts_of(w0),
+        parts_of(w1),
+        parts_of(w2),
+        parts_of(w3),
+        parts_of(w4),
+        parts_of(w5),
+        parts_of(w6),
+        parts_of(w7),
+        parts_of(w8),
+    ]
 }
 
-/// Adds the products of two polynomials' words to the sums.
-pub(crate) fn add_products(sums: &mut Sums, a: &Words, b: &Words)
-    ensures { (p q : ℕ) → p < 2 ^ 128 → q < 2 ^ 128 → a.now ≡ words_of p → b.now ≡ words_of q
-        → whole_of sums.new ≡ bit_xor (whole_of sums.old) (product p q) }
+/// The sum of two products: of the first polynomials, and of the second.
+#[inline(always)]
+pub(crate) fn sum_of_two(x: &Lanes, y: &LaneParts) -> Sums
+    ensures { (p q r s : ℕ) → p < 2 ^ 128 → q < 2 ^ 128 → r < 2 ^ 128 → s < 2 ^ 128
+        → AreLanes p q x.now → AreLaneParts r s y.now
+        → whole_of result ≡ bit_xor (product p r) (product q s) }
 {
-    for k in 0..5 {
-        let [low, high] = carryless(pair(a, k), pair(b, k)).to_array();
-        sums[2 * k] ^= low;
-        sums[2 * k + 1] ^= high;
+    let mut sums = [0; 9];
+    for k in 0..9 {
+        sums[k] = settled(add_products(no_products(), x[k], &y[k]));
     }
+    sums
+}
+
+/// The sum of four products: of the first and second polynomials of one pair, and of those of another.
+#[inline(always)]
+pub(crate) fn sum_of_four(x: &[Lanes; 2], y: &[LaneParts; 2]) -> Sums
+    ensures { (a b c d e f g h : ℕ) → a < 2 ^ 128 → b < 2 ^ 128 → c < 2 ^ 128 → d < 2 ^ 128
+        → e < 2 ^ 128 → f < 2 ^ 128 → g < 2 ^ 128 → h < 2 ^ 128
+        → AreLanes a b (slice_index_or x.now 0 []) → AreLanes c d (slice_index_or x.now 1 [])
+        → AreLaneParts e f (slice_index_or y.now 0 []) → AreLaneParts g h (slice_index_or y.now 1 [])
+        → whole_of result ≡ bit_xor (bit_xor (product a e) (product c g)) (bit_xor (product b f) (product d h)) }
+{
+    let mut sums = [0; 9];
+    for k in 0..9 {
+        let first = add_products(no_products(), x[0][k], &y[0][k]);
+        sums[k] = settled(add_products(first, x[1][k], &y[1][k]));
+    }
+    sums
 }
 
 // The product of two polynomials in halves of 32 bits: from the product of the low halves, that of

@@ -1,4 +1,4 @@
-use Rattle.std.proofs.Common.{bit_xor, get_or, [], sym, ap, ◌∙◌}
+use Rattle.std.proofs.Common.{bit_xor, sym, ◌∙◌}
 use Rattle.ghash_field.specs.Field.{block_product, block_power}
 use Rattle.ghash_field.specs.Hasher.{Holds}
 use Rattle.ghash_field.proofs.FieldLaws.{ghash-more}
@@ -10,7 +10,7 @@ unfolding Holds
 returns c = λ h xs held. (
   held.0,
   held.1,
-  c.times-self.ensures (block_power h 1) (power-below h 0) (ap (λ ps. get_or ps 0 []) held.1)
+  c.times-self.ensures (block_power h 2) (block_power h 1) (power-below h 1) (power-below h 0) held.1.1
       ∙ (λ i. block_product (bit_xor (held.2 i) (c.from_be_bytes.ensures i)) (power-one h held.0 i))
       ∙ sym (ghash-more h _ xs held.0),
 )

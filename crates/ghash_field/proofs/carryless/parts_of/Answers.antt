@@ -2,4 +2,4 @@ use Rattle.ghash_field.proofs.TwoLanes.{parts_made}
 use Rattle.ghash_field.proofs.carryless.parts_of.Goals as goal
 
 pub returns : goal.returns
-returns c = parts_made c.args.x c.requires
+returns c = parts_made c.args.x
