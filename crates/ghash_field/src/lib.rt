@@ -88,7 +88,7 @@ impl Ghash {
         hash
     }
 
-    /// A hasher of no block, under the hash subkey 0. It takes no work.
+    /// A hasher of no block, under the hash subkey 0. Nothing is multiplied.
     pub fn of_zero() -> Ghash
         ensures { Holds result 0 [] }
     {
