@@ -123,6 +123,34 @@ fn audit_into<G: StoreFile + Drop>(
     audit_under(&under, folder, lines)
 }
 
+/// Audits the store in a folder whose card has this block 0, as `audit_folder` does. The last file, in
+/// which an export puts the block, is not called.
+///
+/// # Errors
+///
+/// As `audit_folder`, but that no block is read.
+pub fn audit_folder_under<G: StoreFile + Drop>(
+    alloc: Global,
+    keys: &Keys,
+    block: &[u8; 256],
+    folder: &mut Vec<G>,
+) -> Audit
+    requires folder { vec_len folder.old ≡ folder_count }
+    ensures ends { EndsUnder keys.now block.now (folder_states G.state folder.old.items) (folder_states G.state folder.new.items) result.lines.items result.end }
+    ensures rests { OnlyReads (folder_states G.state folder.old.items) (folder_states G.state folder.new.items) }
+    ensures last { (none : FileState) → folder_states G.state folder.new.items none file_count ≡ folder_states G.state folder.old.items none file_count }
+    ensures whole { vec_len folder.new ≡ folder_count }
+{
+    let under = Under {
+        alloc,
+        keys: keys.copy(),
+        block: *block,
+    };
+    let mut lines = Vec::new(alloc);
+    let end = audit_under(&under, folder, &mut lines);
+    Audit { lines, end }
+}
+
 /// Audits a folder into which a store was exported: reads the card's block from its last file, with zero behind the end, loads the directory
 /// that the block names, and makes a line of each object that it names, in the order of their names: `# UUID ID SIZE cert LENGTH HEX` with the
 /// length and the SHA-256 of a certificate that was made and checked; or, where blocks of the data are bad, their numbers behind `bad:` in

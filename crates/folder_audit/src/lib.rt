@@ -18,5 +18,5 @@ mod reading;
 
 pub use block::read_block;
 pub use fault::{Audit, AuditFault};
-pub use folder::audit_folder;
+pub use folder::{audit_folder, audit_folder_under};
 pub use laws::audited_objects_hold;

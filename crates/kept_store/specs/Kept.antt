@@ -1,5 +1,5 @@
 -- What is opened, over a port that tells its card, and a file of the directory that can be followed.
-use Rattle.std.specs.Prelude.{◌≡◌, ◌⊎◌, ◌<◌, ℕ, List, [], length, Option, Some, IfSome, Ok, Err}
+use Rattle.std.specs.Prelude.{◌≡◌, ◌⊎◌, ◌<◌, ℕ, List, [], length, Option, Some, IfSome, Result, Ok, Err}
 use Rattle.disk_model.specs.State.{FileState}
 use Rattle.disk_model.specs.Calls.{Known, Rests}
 use Rattle.node_image.specs.Selection.{bytes_at}
@@ -23,6 +23,8 @@ use Rattle.tee_types.specs.declared.reply.Cause.TheVariants.{Fault}
 use Rattle.tee_types.specs.declared.reply.Device.TheVariants.{Card, Dir}
 use Rattle.store_commit.specs.Untagged.{IsUntagged}
 use Rattle.store_commit.specs.declared.fault.MountFault.TheVariants.{Failed}
+use Rattle.folder_audit.specs.declared.fault.AuditFault.{AuditFault}
+use Rattle.folder_audit.specs.declared.fault.AuditFault.TheVariants.{Refused}
 use Rattle.kept_store.specs.declared.fault.OpenFault.{OpenFault}
 use Rattle.kept_store.specs.declared.fault.OpenFault.TheVariants.{Block, Store}
 
@@ -107,6 +109,11 @@ IfBlock Holds fault = Unit {0}
 abbrev pub TellsNoTag : OpenFault → Type 0
 TellsNoTag (Store fault) = IsUntagged fault
 TellsNoTag fault = Unit {0}
+
+-- how an audit ended carries none
+abbrev pub EndsUntagged : {A : Type 0} → Result A AuditFault → Type 0
+EndsUntagged (Err (Refused fault)) = IsUntagged fault
+EndsUntagged end = Unit {0}
 
 abbrev pub card_failed : ℕ → OpenFault
 card_failed count = Store (Failed (Fault Card count))

@@ -1,28 +1,97 @@
 //! The devices of a store in a folder.
 
-ghost use Rattle.std.specs.Prelude.{◌≡◌, vec_len, IfErr, IfOk, OnErr, OnOk};
-ghost use Rattle.tee_ports.specs.Faults.{Rose};
+ghost use Rattle.std.specs.Prelude.{◌≡◌, vec_len, IfErr, IfOk};
 ghost use Rattle.tee_types.specs.Limits.{file_count};
 ghost use Rattle.kept_store.specs.Kept.{TellsNoTag};
 
-use crate::fault::OpenFault;
-use crate::taking_over::failed_card;
+use crate::fault::{OpenFault, no_memory};
+use crate::planning::{CardPlan, Seen, seen_of};
+use crate::taking_over::BLOCK_FILE;
+use hmac_keys::{Keys, rpmb_key};
 use host_card::KeptCard;
-use host_folder::FolderFile;
+use host_folder::{FolderFile, FolderLock, LockFault, Sharing, lock_folder};
 use object_calls::Bench;
-use rpmb_card::{KEY_NOT_PROGRAMMED, PROGRAM_KEY, READ_COUNTER, RpmbPort, empty_frame};
-use rpmb_frame::Frame;
 use std::alloc::Global;
 use std::fs::{File, Files};
-use store_commit::MountFault;
-use tee_ports::{Failed, NoMemory};
-use tee_types::BENCH_FILES;
+use tee_ports::NoMemory;
+use tee_types::{BENCH_FILES, DIRECTORY_FILE};
 
 /// The number of the file that keeps the card: behind those of the store, and of the block that an export puts there.
 pub const CARD_FILE: u16 = 275;
 
 /// The files of a folder, and a card that another file of it keeps.
 pub type FolderDevices<'a, W> = Bench<FolderFile<'a, W>, KeptCard<FolderFile<'a, W>>>;
+
+/// Locks a folder for as long as the lock lives.
+///
+/// # Errors
+///
+/// `NoFolder`, `Busy`, `Unlocked`.
+pub(crate) fn locked<W: Files<File = File>>(
+    rt: &W,
+    folder: &str,
+    sharing: Sharing,
+) -> Result<FolderLock, OpenFault>
+    ensures { IfErr result TellsNoTag }
+{
+    match lock_folder(rt, folder, sharing) {
+        Ok(lock) => Ok(lock),
+        Err(LockFault::Missing) => Err(OpenFault::NoFolder),
+        Err(LockFault::Busy) => Err(OpenFault::Busy),
+        Err(LockFault::Refused) => Err(OpenFault::Unlocked),
+    }
+}
+
+// Whether the file of that number is there and has bytes.
+fn has_bytes<W: Files<File = File>>(
+    rt: &W,
+    alloc: Global,
+    folder: &str,
+    number: u16,
+) -> Result<bool, OpenFault>
+    ensures { IfErr result TellsNoTag }
+{
+    let Ok(file) = FolderFile::read_only(rt, alloc, folder, number) else {
+        return Err(no_memory());
+    };
+    match file.len_there() {
+        Ok(length) => Ok(length > 0),
+        Err(_) => Err(OpenFault::Unreadable),
+    }
+}
+
+/// Whether an exported block lies in a folder.
+///
+/// # Errors
+///
+/// `Unreadable` where the system did not tell it; memory ran out.
+pub(crate) fn has_block<W: Files<File = File>>(
+    rt: &W,
+    alloc: Global,
+    folder: &str,
+) -> Result<bool, OpenFault>
+    ensures { IfErr result TellsNoTag }
+{
+    has_bytes(rt, alloc, folder, BLOCK_FILE)
+}
+
+/// Looks at a folder. No file is opened or made.
+///
+/// # Errors
+///
+/// `Unreadable` where the system did not tell a length; memory ran out.
+pub(crate) fn look_at<W: Files<File = File>>(
+    rt: &W,
+    alloc: Global,
+    folder: &str,
+) -> Result<Seen, OpenFault>
+    ensures { IfErr result TellsNoTag }
+{
+    let card = has_bytes(rt, alloc, folder, CARD_FILE)?;
+    let block = has_block(rt, alloc, folder)?;
+    let directory = has_bytes(rt, alloc, folder, DIRECTORY_FILE)?;
+    Ok(seen_of(card, block, directory))
+}
 
 // The files of a folder that have the numbers of a bench. None is opened.
 fn folder_files<'a, W: Files<File = File>>(
@@ -39,78 +108,52 @@ fn folder_files<'a, W: Files<File = File>>(
     Ok(files)
 }
 
-// The card that a file of the folder keeps, with this key. The file is locked.
+// The card of a folder, in its file, which keeps the folder's lock.
 fn folder_card<'a, W: Files<File = File>>(
-    rt: &'a W,
     alloc: Global,
-    folder: &str,
-    key: &[u8; 32],
+    file: FolderFile<'a, W>,
+    keys: &Keys,
+    plan: CardPlan,
 ) -> Result<KeptCard<FolderFile<'a, W>>, OpenFault>
     ensures { IfErr result TellsNoTag }
 {
-    let Ok(mut file) = FolderFile::new(rt, alloc, folder, CARD_FILE) else {
-        return Err(OpenFault::Store(MountFault::NoMemory));
+    let key = rpmb_key(keys);
+    let card = match plan {
+        CardPlan::MakeCard => KeptCard::create(alloc, file, key),
+        CardPlan::OpenCard => KeptCard::open(alloc, file, key),
     };
-    match file.try_lock() {
-        Ok(true) => {}
-        Ok(false) => return Err(OpenFault::Busy),
-        Err(_) => return Err(OpenFault::Unlocked),
-    }
-    let mut card = match KeptCard::open(alloc, file) {
-        Ok(card) => card,
-        Err(broken) => return Err(OpenFault::Card(broken.fault)),
-    };
-    match give_key(&mut card, key) {
-        Ok(()) => Ok(card),
-        Err(failed) => Err(failed_card(failed.count)),
+    match card {
+        Ok(card) => Ok(card),
+        Err(broken) => Err(OpenFault::Card(broken.fault)),
     }
 }
 
-/// The devices of the store in a folder. A file of the store is opened, or made, at the first call that
-/// needs it. The card's file is locked here for as long as the devices live, and the card is read from
-/// it; it has this key from then on, unless it had another.
+/// The devices of the store in a folder. A file of the store is opened at the first call that needs it, and made
+/// by the first that writes it. The card is made, or read from its file, and has the key that these keys give. The
+/// folder stays locked for as long as the devices live.
 ///
 /// # Errors
 ///
-/// `Busy` where somebody else has them; `Unlocked`; `Card` where no card was read from its file;
-/// `Store` where the card failed, or memory ran out.
-pub fn folder_devices<'a, W: Files<File = File>>(
+/// `Card` where no card was made in its file, or read from it; `Store` where memory ran out.
+pub(crate) fn folder_devices<'a, W: Files<File = File>>(
     rt: &'a W,
     alloc: Global,
     folder: &str,
-    key: &[u8; 32],
+    lock: FolderLock,
+    keys: &Keys,
+    plan: CardPlan,
 ) -> Result<FolderDevices<'a, W>, OpenFault>
     ensures whole { IfOk result (λ devices. vec_len devices.files ≡ file_count) }
     ensures untagged { IfErr result TellsNoTag }
 {
     let Ok(files) = folder_files(rt, alloc, folder) else {
-        return Err(OpenFault::Store(MountFault::NoMemory));
+        return Err(no_memory());
     };
-    match folder_card(rt, alloc, folder, key) {
+    let Ok(file) = FolderFile::new(rt, alloc, folder, CARD_FILE) else {
+        return Err(no_memory());
+    };
+    match folder_card(alloc, file.holding(lock), keys, plan) {
         Ok(card) => Ok(Bench { files, card }),
         Err(fault) => Err(fault),
     }
-}
-
-// Gives a card its key (JEDEC: authentication key programming), where it answers that it has none. After a failure it is open whether the card
-// has the key, unless it had one before.
-fn give_key<R: RpmbPort>(card: &mut R, key: &[u8; 32]) -> Result<(), Failed>
-    ensures rose { OnErr result (Rose (R.state card.old).faults (R.state card.new).faults) }
-    ensures carried { IfErr result (λ failed. failed.count ≡ (R.state card.new).faults) }
-    ensures passed { OnOk result ((R.state card.new).faults ≡ (R.state card.old).faults) }
-{
-    let question = Frame {
-        kind: READ_COUNTER,
-        ..empty_frame()
-    };
-    let answer = Frame::parse(&card.exchange(&question.write())?);
-    if answer.result == KEY_NOT_PROGRAMMED {
-        let program = Frame {
-            key_or_mac: *key,
-            kind: PROGRAM_KEY,
-            ..empty_frame()
-        };
-        card.exchange(&program.write())?;
-    }
-    Ok(())
 }

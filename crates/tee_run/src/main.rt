@@ -3,9 +3,12 @@
 //! script of objects on the card alone, and prints its lines with their replies.
 #![tactic(auto)]
 
+mod checking;
+
 ghost use Rattle.std.specs.Prelude.{◌≡◌, vec_len, IfOk};
 ghost use Rattle.folder_export.specs.Folders.{folder_count};
 
+use checking::check_standard;
 use host_folder::FolderFile;
 use script_runner::{
     FOLDER_FILES, RunEnd, Status, blank_bench, folder_of, run, simulator_keys, status_number,
@@ -71,8 +74,17 @@ fn run_standard<W: Files<File = File> + Input + Print + AllocGlobal + Threads + 
     status
 }
 
+/// Whether the words ask for a check of the script.
+fn is_check(words: &[String]) -> bool {
+    match words {
+        [word] => word.as_str() == "check",
+        _ => false,
+    }
+}
+
 fn main(rt: HostRuntime) -> ExitCode {
     let status = match words_of(&rt) {
+        Ok(words) if is_check(words.as_slice()) => return ExitCode::from(check_standard(&rt)),
         Ok(words) => run_standard(&rt, words.as_slice()),
         Err(error) if error.kind() == io::ErrorKind::OutOfMemory => Status::NoMemory,
         Err(_) => Status::Usage,
