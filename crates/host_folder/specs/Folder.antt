@@ -1,8 +1,10 @@
 -- A file of a folder, as what is known of a file: its counts, and how many syncs succeeded. It tells no bytes.
 use Rattle.std.specs.Prelude.{ℕ, ◌≤◌, ◌-◌, List, [], ◌++◌, length, replicate, codes, decimal, Bool, false}
 use Rattle.disk_model.specs.Arms.{no_arms}
+use Rattle.disk_model.specs.Faults.{next_count}
 use Rattle.disk_model.specs.State.{FileState, Sound}
 use Rattle.std.proofs.Common.{arith}
+use Rattle.host_folder.specs.declared.access.Access.{Access}
 use Rattle.host_folder.specs.Syncs.{bases_below, length-syncs, syncs_of}
 
 -- a number with zeros in front, where it has fewer than three digits
@@ -15,11 +17,21 @@ file_path folder number = folder ++ (codes "/" ++ (three_digits number ++ codes 
 
 pub record FolderState : Type 0 where
   pub path : List ℕ
+  -- what it is opened for
+  pub access : Access
   pub faults : ℕ
   pub written : ℕ
   -- how many syncs succeeded, and whether one failed
   pub syncs : ℕ
   pub sync_failed : Bool
+
+-- a file of which no call was made yet
+abbrev pub fresh_file : List ℕ → Access → FolderState
+fresh_file path access = record { path = path; access = access; faults = 0; written = 0; syncs = 0; sync_failed = false }
+
+-- after a call that failed, which counted a fault and nothing else
+abbrev pub failed_once : FolderState → FolderState
+failed_once s = record s { faults = next_count s.faults }
 
 -- nothing of it is honest or steady, and its trail holds its syncs alone
 abbrev pub folder_file : FolderState → FileState

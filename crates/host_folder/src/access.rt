@@ -1,0 +1,10 @@
+// What a file is opened for.
+
+/// What a file of a folder is opened for.
+#[derive(Clone, Copy, Debug, PartialEq, Eq)]
+pub enum Access {
+    /// Reading alone: each write fails, and the file is never made.
+    Read,
+    /// Reading and writing.
+    Write,
+}
