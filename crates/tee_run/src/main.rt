@@ -32,16 +32,31 @@ fn words_of(rt: &(impl Env + AllocGlobal)) -> Result<Vec<String>, io::Error> {
     Ok(words)
 }
 
-/// The files of a folder. None is opened.
+/// The file of that number in the folder that the words speak of: an audit reads it, if it is there.
+fn folder_file<'a, R: Files<File = File> + AllocGlobal + Drop>(
+    rt: &'a R,
+    words: &[String],
+    number: u16,
+) -> Result<FolderFile<'a, R>, NoMemory> {
+    let path = folder_of(words);
+    match words.first() {
+        Some(word) if word.as_str() == "audit" => {
+            FolderFile::read_if_there(rt, rt.alloc(), path, number)
+        }
+        _ => FolderFile::new(rt, rt.alloc(), path, number),
+    }
+}
+
+/// The files of the folder that the words speak of. None is opened.
 fn folder_files<'a, R: Files<File = File> + AllocGlobal + Drop>(
     rt: &'a R,
-    path: &str,
+    words: &[String],
 ) -> Result<Vec<FolderFile<'a, R>>, NoMemory>
     ensures { IfOk result (λ folder. vec_len folder ≡ folder_count) }
 {
     let mut folder = Vec::with_capacity(rt.alloc(), FOLDER_FILES)?;
     for number in 0..FOLDER_FILES as u16 {
-        folder.push(FolderFile::new(rt, rt.alloc(), path, number)?)?;
+        folder.push(folder_file(rt, words, number)?)?;
     }
     Ok(folder)
 }
@@ -54,7 +69,7 @@ fn run_standard<W: Files<File = File> + Input + Print + AllocGlobal + Threads + 
     let Ok(bench) = blank_bench(rt.alloc()) else {
         return Status::NoMemory;
     };
-    let Ok(mut folder) = folder_files(rt, folder_of(words)) else {
+    let Ok(mut folder) = folder_files(rt, words) else {
         return Status::NoMemory;
     };
     let mut source = StdSource::new(rt.reader());
