@@ -25,8 +25,8 @@ mod planning;
 mod reading;
 mod taking_over;
 
-pub use devices::CARD_FILE;
 pub use fault::{OpenFault, Unopened};
+pub use host_folder::CARD_FILE;
 pub use folder::{
     FolderOpening, create_folder_store, open_folder_store, open_or_create_folder_store,
 };
