@@ -60,9 +60,8 @@ fn kept_card<W: Files<File = File>>(
     let Ok(mut file) = FolderFile::read_only(rt, alloc, folder, CARD_FILE) else {
         return Err(no_memory());
     };
-    let mut card = SimCard::with_key(rpmb_key(keys).bytes());
-    match read_card(&mut file, &rpmb_key(keys), &mut card) {
-        Ok(()) => Ok(card),
+    match read_card(alloc, &mut file, &rpmb_key(keys)) {
+        Ok(card) => Ok(Box::into_inner(card)),
         Err(fault) => Err(OpenFault::Card(fault)),
     }
 }
