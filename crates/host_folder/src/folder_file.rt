@@ -45,12 +45,12 @@ pub struct FolderFile<'a, R> {
 }
 
 impl<'a, R> Model for FolderFile<'a, R> {
-    ghost use Rattle.std.specs.Prelude.{string_bytes};
+    ghost use Rattle.std.specs.Prelude.{string_bytes, is_some};
     ghost use Rattle.host_folder.specs.Folder.{FolderState};
 
     ghost Value = { FolderState };
 
-    ghost view = { λ f. record { path = string_bytes f.path; access = f.access; faults = f.faults; written = f.written; syncs = f.syncs; sync_failed = f.sync_failed } };
+    ghost view = { λ f. record { path = string_bytes f.path; access = f.access; faults = f.faults; written = f.written; syncs = f.syncs; sync_failed = f.sync_failed; holds_lock = is_some f.lock } };
 }
 
 impl<'a, R: Files<File = File>> FolderFile<'a, R> {
@@ -125,7 +125,7 @@ impl<'a, R: Files<File = File>> FolderFile<'a, R> {
 
     /// The same file, which holds this lock for as long as it lives.
     pub fn holding(self, lock: FolderLock) -> FolderFile<'a, R>
-        ensures { result ≡ self.entry }
+        ensures { result ≡ record self.entry { holds_lock = true } }
     {
         FolderFile {
             lock: Some(lock),
