@@ -12,7 +12,8 @@ use Rattle.rpmb_card.specs.Protocol.{done_result, last_counter, program_key_kind
 use Rattle.rpmb_card.specs.Card.{CardState, IsCard, card_after, does_write, is_authentic, keyed, programmed, write_result, written, zero_blocks}
 use Rattle.host_card.specs.declared.card_file.Place.{Place}
 use Rattle.host_card.specs.CardFile.{block_behind, counter_behind, file_length, header, is_write_of, last_request, magic, request_at, request_in, version_at, IsCardFile, IsClear, IsDamaged, KeepsCard}
-use Rattle.host_card.specs.Places.{IsSpare, Off, Stands, begin, without, zeros}
+use Rattle.host_card.specs.Places.{HasCopies, IsSpare, Off, Stands, begin, without, zeros}
+use Rattle.host_card.specs.Laws.{HasSameContent}
 use Rattle.host_card.specs.Versions.{IsRestored, with_block}
 use Rattle.host_card.proofs.Blocks.{SameVersion, clear_none, last_newest, last_other, moved, request_is, same_damaged, same_last, same_request}
 use Rattle.host_card.proofs.Standing.{AreSame, file_same, long_zeros, none_torn, same_all, same_back, same_off, same_then, written_in, written_same}
@@ -285,14 +286,9 @@ stands_read key bytes card file r = record {
   keeps = record { has_key = r.has_key; blocks = r.blocks; block = r.block; latest = r.latest; least = r.least };
 }
 
--- two cards are the same but for their registers
-record IsMarked (a b : CardState) : Type 0 where
-  pub key : b.key ≡ a.key
-  pub counter : b.counter ≡ a.counter
-  pub blocks : b.blocks ≡ a.blocks
-
+-- the tests of a card, of a frame that is no write that is done
 marked : (key : List ℕ) (card : CardState) (f : Frame) (sent : List ℕ) (result : ℕ) (programs writes : Bool) → card.key ≡ Some key → (writes && result == done_result) ≡ false
-    → IsMarked card (if programs then programmed card sent else (if writes then written card f result else card))
+    → HasSameContent card (if programs then programmed card sent else (if writes then written card f result else card))
 marked key card f sent result true writes has_key not =
     let has : is_none card.key ≡ false = ap (λ (k : Option (List ℕ)). is_none k) has_key in
     record { key = ap (λ (b : Bool). if b then Some sent else card.key) has; counter = refl; blocks = refl }
@@ -308,7 +304,7 @@ pub stands_marked : (key bytes : List ℕ) (torn : Option Place) (card : CardSta
 stands_marked key bytes torn card request not stands =
     let f = frame_of request in
     let keeps = stands.keeps in
-    let same : IsMarked card (card_after card request) = marked key card f f.key_or_mac (write_result card request) (f.kind == program_key_kind) (f.kind == write_block_kind) keeps.has_key not in
+    let same : HasSameContent card (card_after card request) = marked key card f f.key_or_mac (write_result card request) (f.kind == program_key_kind) (f.kind == write_block_kind) keeps.has_key not in
     record {
       file = stands.file;
       whole = stands.whole;
@@ -321,3 +317,24 @@ stands_marked key bytes torn card request not stands =
         least = λ counter most. omega (arith, keeps.least counter most, same.counter);
       };
     }
+
+-- a request that was put twice stands twice
+pub has_copies : (a : List ℕ) (place : Place) (request : List ℕ) → length request ≡ 512 → place.version < 2 → place.address ≡ (frame_of request).address → HasCopies (after_write a (begin place) (request ++ request)) request
+has_copies a place request long lt at =
+    subst (λ (address : ℕ). (version : ℕ) × (version < 2) × (request_at n (version_at address version) ≡ request) × (request_at n (version_at address version + 512) ≡ request)) at
+    (place.version, lt, first, second)
+  where
+    n : List ℕ
+    n = after_write a (begin place) (request ++ request)
+
+    double : length (request ++ request) ≡ 1024
+    double = omega (arith, length-append request request, long)
+
+    first : request_at n (begin place) ≡ request
+    first = request_is n request (begin place) long (λ i low. sym (written_in a (request ++ request) place double i (omega (arith, low)) ∙ get_or_append_left request request 0 i (omega (arith, low, long))))
+
+    second : request_at n (begin place + 512) ≡ request
+    second = request_is n request (begin place + 512) long (λ i low.
+        let at_once : 512 + i ≡ length request + i = omega (arith, long) in
+        sym (moved n ((begin place + 512) + i) (begin place + (512 + i)) (omega arith) ∙ written_in a (request ++ request) place double (512 + i) (omega (arith, low))
+        ∙ moved (request ++ request) (512 + i) (length request + i) at_once ∙ get_or-append-add request request i 0))

@@ -2,9 +2,10 @@
 use Rattle.std.specs.Prelude.{◌≡◌, ℕ, ◌+◌, ◌-◌, ◌<◌, List, Option, Some, None, replicate}
 use Rattle.disk_model.specs.Bytes.{after_write}
 use Rattle.disk_model.specs.Keeps.{Outside}
+use Rattle.rpmb_frame.specs.Layout.{frame_of}
 use Rattle.rpmb_card.specs.Card.{CardState}
 use Rattle.host_card.specs.declared.card_file.Place.{Place}
-use Rattle.host_card.specs.CardFile.{file_length, version_at, request_in, last_request, IsCardFile, IsClear, IsWhole, KeepsCard}
+use Rattle.host_card.specs.CardFile.{file_length, version_at, request_at, request_in, last_request, IsCardFile, IsClear, IsWhole, KeepsCard}
 
 -- the bytes of a version that is clear
 unfoldable pub zeros : List ℕ
@@ -43,3 +44,8 @@ pub record Stands (key bytes : List ℕ) (torn : Option Place) (card : CardState
   pub whole : IsWhole key bytes
   pub spare : IsSpareOrNone key (without bytes torn) torn
   pub keeps : KeepsCard key (without bytes torn) card
+
+-- both copies of one version of its block are this request
+abbrev pub HasCopies : (bytes request : List ℕ) → Type 0
+HasCopies bytes request = (version : ℕ) × (version < 2) × (request_at bytes (version_at (frame_of request).address version) ≡ request)
+    × (request_at bytes (version_at (frame_of request).address version + 512) ≡ request)

@@ -9,7 +9,7 @@ ghost use Rattle.rpmb_card.specs.Card.{CardState, IsCard, card_after, card_answe
 ghost use Rattle.rpmb_card.specs.Port.{Exchanged, heard_after};
 ghost use Rattle.host_card.specs.Faults.{Counts, HasFault, HasNoRoom};
 ghost use Rattle.host_card.specs.Kept.{Holds, HoldsCard, HoldsTwice, IsLeft, Nowhere, Settles, kept_port};
-ghost use Rattle.host_card.specs.Places.{Stands, zeros};
+ghost use Rattle.host_card.specs.Places.{HasCopies, Stands, zeros};
 
 use crate::card_file::{Place, make_file, put};
 use crate::versions::find_spare;
@@ -55,6 +55,7 @@ fn keep<F: StoreFile>(
     ensures cause { OnErr result (Rose (F.state file.old).faults (F.state file.new).faults) }
     ensures kept { OnOk result ((card : CardState) → IsCard card → IsTrue (does_write card request.now) →
         Holds key.now (F.state file.old) card None → Holds key.now (F.state file.new) (card_after card request.now) None) }
+    ensures copies { OnOk result (Known (F.state file.old) (F.state file.new) → HasCopies (F.state file.new).reads request.now) }
     ensures torn { IfErr result (λ torn. (card : CardState) →
         Holds key.now (F.state file.old) card None → Holds key.now (F.state file.new) card torn) }
     ensures held { (card : CardState) →
@@ -237,6 +238,8 @@ impl<F: StoreFile> KeptCard<F> {
         ensures key { self.new.key ≡ self.old.key }
         ensures ran { Keeps Nowhere (F.state self.old.file) (F.state self.new.file) }
         ensures held { HoldsCard self.old.key (F.state self.old.file) (F.state self.new.file) (box_value self.old.card) }
+        ensures copies { OnOk result (IsTrue (does_write (box_value self.old.card) frame.now) →
+            Known (F.state self.old.file) (F.state self.new.file) → HasCopies (F.state self.new.file).reads frame.now) }
         ensures tidy { OnOk result (self.new.torn ≡ None) }
     {
         if !self.card.does_write(frame) {
@@ -291,6 +294,10 @@ impl<F: StoreFile> RpmbPort for KeptCard<F> {
         ensures held { self.old.torn ≡ None →
             HoldsCard self.old.key (F.state self.old.file) (F.state self.new.file) (box_value self.old.card) }
         ensures mended { HoldsTwice self.old.key (F.state self.old.file) (F.state self.new.file) (box_value self.old.card) }
+
+        // A write that the card took stands in the file twice.
+        ensures copies { OnOk result (IsTrue (does_write (box_value self.old.card) frame.now) →
+            Known (F.state self.old.file) (F.state self.new.file) → HasCopies (F.state self.new.file).reads frame.now) }
 
         // Where it answers, the port is tidy: so each image that a crash may leave has the card that answered.
         ensures tidy { OnOk result (self.new.torn ≡ None) }

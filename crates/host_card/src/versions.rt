@@ -89,7 +89,8 @@ fn counter_of(request: &[u8; 512]) -> u32
 
 // The number of the version that may be written over.
 fn spare_of(first: &Version, second: &Version) -> u8
-    ensures { result ≡ spare_number first.now second.now }
+    ensures number { result ≡ spare_number first.now second.now }
+    ensures below { result < 2 }
 {
     match (first, second) {
         (Version::Request(first), Version::Request(second)) => {
@@ -134,6 +135,7 @@ pub(crate) fn find_spare<F: StoreFile>(
     ensures rests { Rests (F.state file.old) (F.state file.new) }
     ensures counts { Counts (F.state file.old) (F.state file.new) result }
     ensures at { IfOk result (λ place. place.address ≡ address) }
+    ensures below { IfOk result (λ place. place.version < 2) }
     ensures spare { IfOk result (λ place. IsTrue (F.state file.old).tells → Known (F.state file.old) (F.state file.new) →
         IsWhole key.now (F.state file.old).reads → IsSpare key.now (F.state file.old).reads place) }
 {

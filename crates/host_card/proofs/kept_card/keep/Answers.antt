@@ -1,13 +1,16 @@
-use Rattle.std.proofs.Common.{◌≡◌, ◌∙◌, ap, ℕ, ◌+◌, length, List, None, IsTrue, subst, rules}
+use Rattle.std.proofs.Common.{◌≡◌, ◌∙◌, sym, ap, ℕ, ◌+◌, length, List, None, IsTrue, subst, rules}
 use Rattle.disk_model.specs.Keeps.{Outside}
 use Rattle.disk_model.specs.State.{FileState}
+use Rattle.disk_model.specs.Bytes.{after_write}
+use Rattle.disk_model.proofs.Goings.{then_known}
 use Rattle.disk_model.proofs.Laws.{keeps_then}
 use Rattle.rpmb_frame.specs.declared.frame.Frame.{Frame}
 use Rattle.host_card.specs.Kept.{Nowhere}
 use Rattle.disk_model.specs.Calls.{Known}
 use Rattle.host_card.specs.declared.card_file.Place.{Place}
 use Rattle.host_card.specs.CardFile.{IsWhole}
-use Rattle.host_card.specs.Places.{IsSpare, Off, begin}
+use Rattle.host_card.specs.Places.{HasCopies, IsSpare, Off, begin}
+use Rattle.host_card.proofs.Acting.{has_copies}
 use Rattle.host_card.proofs.Moments.{found_held, found_torn, found_written, held_behind, holds_card, holds_on, nowhere, rests_off}
 use Rattle.host_card.proofs.kept_card.keep.Goals as goal
 
@@ -62,3 +65,13 @@ pub returns-in-Err-clause-held : goal.returns-in-Err-clause-held
 returns-in-Err-clause-held g c = λ card holds.
     found_held c.args.key.now _ _ _ c.in-Ok.place card (g.met.F.StoreFile.sound c.args.file.now) (g.met.F.StoreFile.sound c.find_spare.new.file) c.in-Ok.ensures.rests
     (same_key _ _ (g.F.StoreFile.state c.args.file.now) (g.F.StoreFile.state c.find_spare.new.file) c.in-Ok.place c.bytes.ensures c.in-Ok.ensures.spare) holds c.in-Err.ensures.keeps
+
+pub returns-in-Ok-put-clause-copies : goal.returns-in-Ok-put-clause-copies
+returns-in-Ok-put-clause-copies g c = λ known.
+    let long : length c.args.request.now ≡ 512 = search rules in
+    let mid : FileState = g.F.StoreFile.state c.find_spare.new.file in
+    let place = c.in-Ok.place in
+    let new : FileState = g.F.StoreFile.state c.put.new.file in
+    let known_on : Known mid new = then_known (g.F.StoreFile.state c.args.file.now) mid new c.in-Ok.ensures.rests.goes_on known in
+    subst (λ (l : List ℕ). HasCopies l c.args.request.now) (sym (c.in-Ok-put.ensures.put.reads known_on ∙ ap (after_write mid.reads (begin place)) c.twice.ensures))
+    (has_copies mid.reads place c.args.request.now long c.in-Ok.ensures.below (c.in-Ok.ensures.at ∙ ap (λ (f : Frame). f.address) c.parse-address.ensures.fields))

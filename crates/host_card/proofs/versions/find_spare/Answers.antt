@@ -13,4 +13,4 @@ pub returns-clause-spare : goal.returns-clause-spare
 returns-clause-spare g c = λ tells known.
     let low : c.args.address < 256 = omega arith in
     spare_found c.args.key.now _ _ _ c.args.address c.in_ok-first.first c.in_ok-second.second low c.in_ok-first.ensures.rests c.in_ok-second.ensures.rests
-    c.in_ok-first.ensures.told c.in_ok-second.ensures.told tells known c.spare_of-version.result c.spare_of-version.ensures
+    c.in_ok-first.ensures.told c.in_ok-second.ensures.told tells known c.spare_of-version.result c.spare_of-version.ensures.number

@@ -1,4 +1,4 @@
-use Rattle.std.proofs.Common.{◌≡◌, ◌∙◌, sym, ap, subst, false, box_value}
+use Rattle.std.proofs.Common.{◌≡◌, ◌∙◌, sym, ap, subst, false, true≢false, box_value}
 use Rattle.rpmb_card.specs.Card.{CardState, card_after, does_write}
 use Rattle.host_card.specs.Kept.{Holds}
 use Rattle.host_card.proofs.Moments.{held_still, holds_marked}
@@ -20,3 +20,14 @@ invariant_of-self g c =
           (sym (c.answered.ensures.after ∙ ap (λ (k : CardState). card_after k c.args.frame.now) c.deref_mut.ensures.value))
           (holds_marked c.args.self.now.key _ card c.args.self.now.torn c.args.frame.now not c.args.self.now.holds);
     }
+
+pub returns-then-not-does_write-clause-copies : goal.returns-then-not-does_write-clause-copies
+returns-then-not-does_write-clause-copies g c = λ does.
+    let not : does_write (box_value c.args.self.now.card) c.args.frame.now ≡ false =
+    sym (c.does_write.ensures ∙ ap (λ (k : CardState). does_write k c.args.frame.now) c.deref.ensures) ∙ c.if-not-does_write.true in
+    absurd (true≢false (sym does ∙ not))
+
+pub returns-in-Ok-clause-held : goal.returns-in-Ok-clause-held
+returns-in-Ok-clause-held g c =
+    let card : CardState = box_value c.args.self.now.card in
+    c.in-Ok.ensures.held card (subst (Holds c.args.self.now.key (g.F.StoreFile.state c.args.self.now.file) card) c.requires c.args.self.now.holds)
