@@ -1,13 +1,12 @@
 // A port to a card that a file keeps.
-ghost use Rattle.std.specs.Prelude.{◌≡◌, ◌⊎◌, ℕ, List, Bool, ◌+◌, ◌<◌, ◌≤◌, ◌^◌, [], ◌++◌, length, box_value, false, true, IsTrue, IfOk, IfErr, OnOk, OnErr, None, Some, is_none};
-ghost use Rattle.disk_model.specs.State.{LeftNow};
+ghost use Rattle.std.specs.Prelude.{◌≡◌, ◌<◌, ◌≤◌, ◌^◌, ◌++◌, length, box_value, IsTrue, IfOk, IfErr, OnOk, OnErr, None, Some, is_none};
 ghost use Rattle.disk_model.specs.Calls.{Known, Rests};
 ghost use Rattle.disk_model.specs.Keeps.{Keeps};
 ghost use Rattle.disk_model.specs.Faults.{Rose, next_count};
 ghost use Rattle.rpmb_frame.specs.Layout.{frame_of};
 ghost use Rattle.rpmb_card.specs.Card.{CardState, IsCard, card_after, card_answer, does_write, keyed};
 ghost use Rattle.rpmb_card.specs.Port.{Exchanged, heard_after};
-ghost use Rattle.host_card.specs.Faults.{Counts, HasFault, HasNoRoom};
+ghost use Rattle.host_card.specs.Faults.{HasFault, HasNoRoom};
 ghost use Rattle.host_card.specs.Kept.{Holds, HoldsCard, HoldsTwice, IsLeft, Nowhere, Settles, kept_port};
 ghost use Rattle.host_card.specs.Places.{HasCopies, Stands, zeros};
 
