@@ -1,6 +1,6 @@
 -- What makes and changes a card's file: a new card, a write that the card takes, and blocks that are put back.
-use Rattle.std.proofs.Common.{◌≡◌, ◌∙◌, ◌⊎◌, inl, inr, refl, sym, ap, subst, ℕ, ◌+◌, ◌-◌, ◌<◌, ◌≤◌, List, [], ◌++◌, length, get_or, set, take, max, Bool, true, false, not, ◌==◌, ◌&&◌, nat_lt, is_none, if◌then◌else◌, IsTrue, Option, Some, None, replicate, arith, length-append, length-take, length-set}
-use Rattle.std.proofs.lemmas.Bool.{and_from, and_parts, cases_eq, eqb-true, false≢true, lt-ltb, ltb-false, eqb-false, eq-eqb, not-false}
+use Rattle.std.proofs.Common.{◌≡◌, ◌∙◌, inl, inr, refl, sym, ap, subst, ℕ, ◌+◌, ◌-◌, ◌<◌, ◌≤◌, List, [], ◌++◌, length, get_or, set, take, Bool, true, false, not, ◌==◌, ◌&&◌, nat_lt, is_none, if◌then◌else◌, IsTrue, Option, Some, None, replicate, arith, length-append, length-take, length-set}
+use Rattle.std.proofs.lemmas.Bool.{and_from, and_parts, cases_eq, eqb-true, false≢true, lt-ltb, ltb-false, eqb-false, eq-eqb}
 use Rattle.std.proofs.lemmas.List.{ext_get_or, get_or-append_right, get_or_append_left, get_or-append-add, get_or-replicate, get_or-set_other, get_or-set_same, get_or-take, length-replicate, length-take-le}
 use Rattle.sha2.proofs.Facts256.{length-sha256}
 use Rattle.disk_model.specs.Bytes.{after_resize, after_write}
@@ -11,12 +11,12 @@ use Rattle.rpmb_frame.specs.Layout.{frame_of}
 use Rattle.rpmb_card.specs.Protocol.{done_result, last_counter, program_key_kind, write_block_kind}
 use Rattle.rpmb_card.specs.Card.{CardState, IsCard, card_after, does_write, is_authentic, keyed, programmed, write_result, written, zero_blocks}
 use Rattle.host_card.specs.declared.card_file.Place.{Place}
-use Rattle.host_card.specs.CardFile.{block_behind, counter_behind, file_length, header, is_write_of, last_request, magic, request_at, request_in, version_at, IsCardFile, IsClear, IsDamaged, KeepsCard}
-use Rattle.host_card.specs.Places.{HasCopies, IsSpare, Off, Stands, begin, without, zeros}
+use Rattle.host_card.specs.CardFile.{block_behind, counter_behind, file_length, header, is_write_of, last_request, magic, request_at, request_in, version_at, IsCardFile, IsClear, IsDamaged}
+use Rattle.host_card.specs.Places.{HasCopies, IsSpare, Stands, begin, without, zeros}
 use Rattle.host_card.specs.Laws.{HasSameContent}
 use Rattle.host_card.specs.Versions.{IsRestored, with_block}
-use Rattle.host_card.proofs.Blocks.{SameVersion, clear_none, last_newest, last_other, moved, request_is, same_damaged, same_last, same_request}
-use Rattle.host_card.proofs.Standing.{AreSame, file_same, long_zeros, none_torn, same_all, same_back, same_off, same_then, written_in, written_same}
+use Rattle.host_card.proofs.Blocks.{clear_none, last_newest, last_other, moved, request_is, same_damaged, same_last, same_request}
+use Rattle.host_card.proofs.Standing.{AreSame, file_same, long_zeros, none_torn, same_back, same_off, same_then, written_in, written_same}
 
 -- what holds of a write that a card takes
 pub record IsDone (card : CardState) (request : List ℕ) : Type 0 where

@@ -1,14 +1,13 @@
 -- What is read of a card's file.
-use Rattle.std.proofs.Common.{◌≡◌, ◌∙◌, ◌⊎◌, inl, inr, refl, sym, ap, subst, ℕ, ◌+◌, ◌-◌, ◌<◌, ◌≤◌, List, ◌++◌, length, get_or, take, drop, min, true, false, nat_lt, if◌then◌else◌, Bool, IsTrue, Option, Some, None, Result, Ok, Err, OnOk, IfErr, MatchResult, arith, length-append, length-take, length-drop}
+use Rattle.std.proofs.Common.{◌≡◌, ◌∙◌, inl, inr, sym, ap, subst, ℕ, ◌+◌, ◌-◌, ◌<◌, ◌≤◌, List, ◌++◌, length, get_or, take, drop, true, false, nat_lt, if◌then◌else◌, Bool, IsTrue, Option, Some, None, Result, Ok, Err, OnOk, IfErr, MatchResult, arith, length-append, length-take, length-drop}
 use Rattle.std.proofs.lemmas.Bool.{cases_lt, lt-ltb, le-ltb}
-use Rattle.std.proofs.lemmas.List.{get_or-append_right, get_or-drop, get_or-replicate, get_or-take, get_or_append_left, get_or_past, length-take-le, take-take}
+use Rattle.std.proofs.lemmas.List.{get_or-append_right, get_or-drop, get_or-take, get_or_append_left, get_or_past, length-take-le, take-take}
 use Rattle.std.proofs.lemmas.Option.{none-some}
 use Rattle.tee_ports.specs.Files.{ReadsAt}
 use Rattle.disk_model.specs.State.{FileState}
 use Rattle.disk_model.specs.Calls.{GoesOn, Known, Rests}
 use Rattle.disk_model.proofs.Goings.{first_known, rests_then, then_known}
 use Rattle.rpmb_frame.specs.Layout.{frame_of}
-use Rattle.host_card.specs.declared.card_file.Place.{Place}
 use Rattle.host_card.specs.declared.versions.Version.{Version}
 use Rattle.host_card.specs.declared.versions.Version.TheVariants.{Request, Clear, Bad}
 use Rattle.disk_model.specs.Faults.{Rose}
@@ -19,9 +18,9 @@ use Rattle.host_card.specs.CardFile.{counter_behind, file_length, header, IsCard
 use Rattle.host_card.specs.Faults.{HasFault, IsRefused}
 use Rattle.host_card.specs.Opening.{IsLaid, IsMade, IsRefusal}
 use Rattle.host_card.specs.Places.{IsSpare, Stands}
-use Rattle.host_card.specs.Versions.{AreZero, HasWrite, IsBlock, IsRestored, IsVersion, IsVersionOf, newest, spare_number, with_block}
+use Rattle.host_card.specs.Versions.{HasWrite, IsBlock, IsRestored, IsVersion, IsVersionOf, newest, spare_number, with_block}
 use Rattle.host_card.proofs.Acting.{restored_more, stands_new, stands_read}
-use Rattle.host_card.proofs.Blocks.{last_is, last_newest, last_other, long_request, moved, newer_false, newer_of, one_of_two, request_byte, request_is}
+use Rattle.host_card.proofs.Blocks.{last_is, last_newest, last_other, long_request, moved, newer_false, one_of_two, request_byte, request_is}
 
 -- a sector that was read into zero bytes
 pub sector_read : (bytes old new : List ℕ) (at count : ℕ) → length old ≡ 512 → ((i : ℕ) → i < 512 → get_or old i 0 ≡ 0) → ReadsAt bytes at old count new → new ≡ request_at bytes at

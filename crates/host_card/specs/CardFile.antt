@@ -1,7 +1,7 @@
 -- A card in a file: a header of 512 bytes, and behind it the 256 blocks of the card. Each block has room for two versions, and
 -- a version is the request that wrote the block (JESD84-B51, 6.6.22.4.3), in two copies. So a change never touches what stands.
 -- The file ends with a sector that is never written, since a crash may leave a file shorter where it was writing its end.
-use Rattle.std.specs.Prelude.{◌≡◌, ◌⊎◌, ℕ, ◌+◌, ◌*◌, ◌<◌, ◌≤◌, ◌==◌, ◌&&◌, nat_lt, if◌then◌else◌, List, [], ◌++◌, length, map, take, replicate, get_or, slice_index_or, codes, Bool, Option, None, Some}
+use Rattle.std.specs.Prelude.{◌≡◌, ℕ, ◌+◌, ◌*◌, ◌<◌, ◌≤◌, ◌==◌, ◌&&◌, nat_lt, if◌then◌else◌, List, [], ◌++◌, length, map, take, replicate, get_or, slice_index_or, codes, Bool, Option, None, Some}
 use Rattle.std.specs.List.{range_with_len}
 use Rattle.hmac_keys.specs.Hmac.{hmac}
 use Rattle.rpmb_frame.specs.Layout.{frame_of}

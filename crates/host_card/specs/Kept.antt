@@ -1,9 +1,9 @@
 -- What a file keeps of a card over its calls, and what a crash leaves of it.
-use Rattle.std.specs.Prelude.{◌≡◌, ℕ, ◌<◌, List, Option, Some, None, false, IsTrue}
+use Rattle.std.specs.Prelude.{◌≡◌, ℕ, List, Option, Some, None, false, IsTrue}
 use Rattle.disk_model.specs.Bytes.{after_write}
 use Rattle.disk_model.specs.Images.{Every, Has}
 use Rattle.disk_model.specs.State.{FileState, LeftNow, LeftSince, moment}
-use Rattle.disk_model.specs.Calls.{Known, Syncs}
+use Rattle.disk_model.specs.Calls.{Known}
 use Rattle.disk_model.specs.Keeps.{Keeps}
 use Rattle.rpmb_card.specs.Arms.{no_arms}
 use Rattle.rpmb_card.specs.Card.{CardState}

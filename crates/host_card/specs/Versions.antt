@@ -1,10 +1,10 @@
 -- What is read of a block.
-use Rattle.std.specs.Prelude.{◌≡◌, ◌⊎◌, ℕ, ◌<◌, ◌≤◌, List, [], length, Option, Some, None, true, nat_lt, if◌then◌else◌, EachIndex, slice_index, slice_index_or, slice_set, max, replicate}
+use Rattle.std.specs.Prelude.{◌≡◌, ℕ, ◌<◌, ◌≤◌, List, [], length, Option, Some, None, true, nat_lt, if◌then◌else◌, EachIndex, slice_index, slice_index_or, slice_set, max, replicate}
 use Rattle.rpmb_frame.specs.Layout.{frame_of}
 use Rattle.rpmb_card.specs.Card.{CardState}
 use Rattle.host_card.specs.declared.versions.Version.{Version}
 use Rattle.host_card.specs.declared.versions.Version.TheVariants.{Request, Clear, Bad}
-use Rattle.host_card.specs.CardFile.{version_at, request_at, is_write_of, request_in, last_request, counter_behind, block_behind, IsClear, IsDamaged}
+use Rattle.host_card.specs.CardFile.{is_write_of, request_in, last_request, counter_behind, block_behind, IsClear, IsDamaged}
 
 -- of two copies the first that is a write of the block
 abbrev pub first_write : (key : List ℕ) (address : ℕ) (first second : List ℕ) → Option (List ℕ)

@@ -1,9 +1,7 @@
 // The layout of a card's file, and the calls that read and write its parts.
-ghost use Rattle.std.specs.Prelude.{◌≡◌, ℕ, ◌+◌, ◌<◌, ◌≤◌, ◌^◌, ◌++◌, List, codes, length, take, IsTrue, IfOk, OnOk, OnErr, IfErr, MatchResult};
+ghost use Rattle.std.specs.Prelude.{◌≡◌, ◌+◌, ◌<◌, ◌^◌, length, take, IsTrue, IfOk, OnOk, IfErr, MatchResult};
 ghost use Rattle.disk_model.specs.Calls.{GoesOn, Known, Rests};
-ghost use Rattle.disk_model.specs.Faults.{Rose};
 ghost use Rattle.disk_model.specs.Keeps.{Keeps, Outside};
-ghost use Rattle.hmac_keys.specs.Hmac.{hmac};
 ghost use Rattle.host_card.specs.CardFile.{IsCardFile, header, request_at};
 ghost use Rattle.host_card.specs.Faults.{Counts, HasFault, HasNoRoom};
 ghost use Rattle.host_card.specs.Kept.{IsPut};

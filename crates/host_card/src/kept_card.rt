@@ -1,13 +1,12 @@
 // A port to a card that a file keeps.
-ghost use Rattle.std.specs.Prelude.{◌≡◌, ◌⊎◌, ℕ, List, Bool, ◌+◌, ◌<◌, ◌≤◌, ◌^◌, [], ◌++◌, length, box_value, false, true, IsTrue, IfOk, IfErr, OnOk, OnErr, None, Some, is_none};
-ghost use Rattle.disk_model.specs.State.{LeftNow};
+ghost use Rattle.std.specs.Prelude.{◌≡◌, ◌<◌, ◌≤◌, ◌^◌, ◌++◌, length, box_value, IsFalse, IsTrue, IfOk, IfErr, OnOk, OnErr, None, Some, is_none};
 ghost use Rattle.disk_model.specs.Calls.{Known, Rests};
 ghost use Rattle.disk_model.specs.Keeps.{Keeps};
 ghost use Rattle.disk_model.specs.Faults.{Rose, next_count};
 ghost use Rattle.rpmb_frame.specs.Layout.{frame_of};
 ghost use Rattle.rpmb_card.specs.Card.{CardState, IsCard, card_after, card_answer, does_write, keyed};
 ghost use Rattle.rpmb_card.specs.Port.{Exchanged, heard_after};
-ghost use Rattle.host_card.specs.Faults.{Counts, HasFault, HasNoRoom};
+ghost use Rattle.host_card.specs.Faults.{HasFault, HasNoRoom};
 ghost use Rattle.host_card.specs.Kept.{Holds, HoldsCard, HoldsTwice, IsLeft, Nowhere, Settles, kept_port};
 ghost use Rattle.host_card.specs.Places.{HasCopies, Stands, zeros};
 
@@ -159,7 +158,8 @@ impl<F: StoreFile> KeptCard<F> {
     ///
     /// # Errors
     ///
-    /// The first that holds: no memory for the card; the file failed, or has bytes, and then it is left as it is.
+    /// The first that holds: no memory for the card; the file failed, or has bytes, and then it is left as it is. One that
+    /// failed may have bytes since.
     pub fn create(alloc: Global, file: F, key: SecretKey) -> Result<KeptCard<F>, CardBroken<F>>
         ensures card { IfOk result (λ port. box_value port.card ≡ keyed key) }
         ensures key { IfOk result (λ port. port.key ≡ key) }
@@ -240,6 +240,8 @@ impl<F: StoreFile> KeptCard<F> {
         ensures held { HoldsCard self.old.key (F.state self.old.file) (F.state self.new.file) (box_value self.old.card) }
         ensures copies { OnOk result (IsTrue (does_write (box_value self.old.card) frame.now) →
             Known (F.state self.old.file) (F.state self.new.file) → HasCopies (F.state self.new.file).reads frame.now) }
+        ensures idle { IsFalse (does_write (box_value self.old.card) frame.now) →
+            F.state self.new.file ≡ F.state self.old.file }
         ensures tidy { OnOk result (self.new.torn ≡ None) }
     {
         if !self.card.does_write(frame) {
@@ -298,6 +300,10 @@ impl<F: StoreFile> RpmbPort for KeptCard<F> {
         // A write that the card took stands in the file twice.
         ensures copies { OnOk result (IsTrue (does_write (box_value self.old.card) frame.now) →
             Known (F.state self.old.file) (F.state self.new.file) → HasCopies (F.state self.new.file).reads frame.now) }
+
+        // Any other frame leaves the file as it is, where the port was tidy.
+        ensures idle { self.old.torn ≡ None → IsFalse (does_write (box_value self.old.card) frame.now) →
+            F.state self.new.file ≡ F.state self.old.file }
 
         // Where it answers, the port is tidy: so each image that a crash may leave has the card that answered.
         ensures tidy { OnOk result (self.new.torn ≡ None) }

@@ -1,7 +1,7 @@
 // The card of a file.
-ghost use Rattle.std.specs.Prelude.{◌≡◌, ℕ, ◌<◌, ◌^◌, List, box_value, None, IsTrue, IfOk, IfErr, OnOk};
+ghost use Rattle.std.specs.Prelude.{◌≡◌, box_value, None, IsTrue, IfOk, IfErr, OnOk};
 ghost use Rattle.disk_model.specs.Calls.{Known, Rests};
-ghost use Rattle.rpmb_card.specs.Card.{CardState, IsCard, keyed};
+ghost use Rattle.rpmb_card.specs.Card.{IsCard, keyed};
 ghost use Rattle.host_card.specs.CardFile.{IsDamaged, last_request};
 ghost use Rattle.host_card.specs.Faults.{HasFault};
 ghost use Rattle.host_card.specs.Places.{Stands};

@@ -1,5 +1,5 @@
 // The versions of a block, read.
-ghost use Rattle.std.specs.Prelude.{◌≡◌, ℕ, ◌<◌, ◌↔◌, List, Option, Some, None, IsTrue, IfOk};
+ghost use Rattle.std.specs.Prelude.{◌≡◌, ◌<◌, ◌↔◌, Some, IsTrue, IfOk};
 ghost use Rattle.disk_model.specs.Calls.{Known, Rests};
 ghost use Rattle.rpmb_card.specs.Card.{is_authentic};
 ghost use Rattle.rpmb_frame.specs.Layout.{frame_of};

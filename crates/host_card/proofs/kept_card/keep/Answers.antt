@@ -11,7 +11,7 @@ use Rattle.host_card.specs.declared.card_file.Place.{Place}
 use Rattle.host_card.specs.CardFile.{IsWhole}
 use Rattle.host_card.specs.Places.{HasCopies, IsSpare, Off, begin}
 use Rattle.host_card.proofs.Acting.{has_copies}
-use Rattle.host_card.proofs.Moments.{found_held, found_torn, found_written, held_behind, holds_card, holds_on, nowhere, rests_off}
+use Rattle.host_card.proofs.Moments.{found_held, found_torn, found_written, holds_card, holds_on, nowhere, rests_off}
 use Rattle.host_card.proofs.kept_card.keep.Goals as goal
 
 -- the key's bytes are the key

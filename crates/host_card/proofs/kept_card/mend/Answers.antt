@@ -1,4 +1,4 @@
-use Rattle.std.proofs.Common.{ℕ, ◌+◌, Some}
+use Rattle.std.proofs.Common.{◌+◌, Some}
 use Rattle.disk_model.specs.Keeps.{Outside}
 use Rattle.host_card.specs.Places.{begin}
 use Rattle.host_card.proofs.Moments.{holds_card, holds_on, mended, nowhere, on_err, on_ok, outside_off}

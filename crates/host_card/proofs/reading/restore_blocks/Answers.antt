@@ -1,4 +1,4 @@
-use Rattle.std.proofs.Common.{refl, sym, subst, ◌∙◌, ap, None, ◌≡◌, ◌<◌, ◌≤◌, ℕ, ◌+◌, arith}
+use Rattle.std.proofs.Common.{refl, sym, subst, ◌∙◌, ap, ◌≡◌, ◌<◌, ℕ, ◌+◌, arith}
 use Rattle.disk_model.proofs.Goings.{rests_none, rests_then}
 use Rattle.std.proofs.lemmas.Result.{err_from_is_err_and}
 use Rattle.rpmb_card.specs.Card.{CardState}
