@@ -3,17 +3,17 @@ use Rattle.std.specs.Prelude.{ℕ, List, [], ◌∷◌, if◌then◌else◌, Opt
 use Rattle.tee_store.specs.declared.words.Verb.{Verb}
 use Rattle.tee_store.specs.declared.words.Verb.TheVariants.{Check, Create, Dump, Get, Info, List as ListVerb, Put, Remove, Rename}
 
-abbrev pub folder_verb : List ℕ → Option Verb
+unfoldable pub folder_verb : List ℕ → Option Verb
 folder_verb verb =
     if bytes_eq verb (codes "create") then Some Create else if bytes_eq verb (codes "list") then Some ListVerb else
     if bytes_eq verb (codes "check") then Some Check else if bytes_eq verb (codes "dump") then Some Dump else None
 
-abbrev pub object_verb : List ℕ → Option Verb
+unfoldable pub object_verb : List ℕ → Option Verb
 object_verb verb =
     if bytes_eq verb (codes "put") then Some Put else if bytes_eq verb (codes "get") then Some Get else
     if bytes_eq verb (codes "info") then Some Info else if bytes_eq verb (codes "remove") then Some Remove else None
 
-abbrev pub pair_verb : List ℕ → Option Verb
+unfoldable pub pair_verb : List ℕ → Option Verb
 pair_verb verb = if bytes_eq verb (codes "rename") then Some Rename else None
 
 -- a command and a folder; these and an object; or these and two identifiers

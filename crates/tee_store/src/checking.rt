@@ -1,7 +1,5 @@
 //! `check`: whether each object of a store is whole.
 
-ghost use Rattle.std.specs.Prelude.{◌≡◌, ◌+◌};
-
 use crate::faults::Fault;
 use crate::stores::inspect;
 use crate::words::Place;
@@ -33,12 +31,11 @@ impl Counts {
     }
 
     fn add(&mut self, finding: Finding) {
-        let count = match finding {
-            Finding::Whole => &mut self.whole,
-            Finding::BadBlocks => &mut self.bad_blocks,
-            Finding::Damaged => &mut self.damaged,
-        };
-        *count = count.saturating_add(1);
+        match finding {
+            Finding::Whole => self.whole = self.whole.saturating_add(1),
+            Finding::BadBlocks => self.bad_blocks = self.bad_blocks.saturating_add(1),
+            Finding::Damaged => self.damaged = self.damaged.saturating_add(1),
+        }
     }
 
     // How many are not whole.

@@ -1,7 +1,6 @@
 //! Calls of one application, served one after another.
 
-ghost use Rattle.std.specs.Prelude.{◌≡◌, [], vec_len};
-ghost use Rattle.commit_gate.specs.CallerSessions.{IsCallerOf};
+ghost use Rattle.std.specs.Prelude.{◌≡◌, ◌<◌, [], length, vec_len};
 ghost use Rattle.object_calls.specs.OpenedStores.{IsStoreOf};
 ghost use Rattle.object_calls.specs.Opening.{IsKeyed};
 ghost use Rattle.object_calls.specs.OpeningSessions.{AreCallers, AreUnseated};
@@ -24,18 +23,33 @@ pub struct Caller {
     pub entropy: SeedEntropy,
 }
 
-// Makes calls up to the first that is not done, whose reply is the error.
+// Makes a call by the first session.
+fn make_call<F: StoreFile + Drop, R: RpmbPort + Drop, L: StoreName>(
+    service: &mut Service<F, R, L>,
+    sessions: &mut [Session<SeedEntropy>],
+    call: &Call,
+) -> Reply
+    requires callers { AreCallers L.store sessions.old }
+    requires some { 0 < length sessions.old }
+    ensures callers { AreCallers L.store sessions.new }
+{
+    let answer = service.call(&mut sessions[0], call);
+    answer.reply
+}
+
+// Makes calls by the first session, up to the first that is not done, whose reply is the error.
 fn make_calls<F: StoreFile + Drop, R: RpmbPort + Drop, L: StoreName>(
     service: &mut Service<F, R, L>,
-    session: &mut Session<SeedEntropy>,
+    sessions: &mut [Session<SeedEntropy>],
     calls: &[Call],
     replies: &mut Vec<Reply>,
 ) -> Result<(), Reply>
-    requires { IsCallerOf L.store session.old }
-    ensures { IsCallerOf L.store session.new }
+    requires callers { AreCallers L.store sessions.old }
+    requires some { 0 < length sessions.old }
+    ensures callers { AreCallers L.store sessions.new }
 {
     for call in calls {
-        let reply = service.call(session, call).reply;
+        let reply = make_call(service, sessions, call);
         if kind_of_reply(&reply) != Kind::Done {
             return Err(reply);
         }
@@ -46,7 +60,7 @@ fn make_calls<F: StoreFile + Drop, R: RpmbPort + Drop, L: StoreName>(
     Ok(())
 }
 
-// Makes the calls by the one session, and closes the store.
+// Makes the calls by the first session, and closes the store.
 fn make_and_close<F: StoreFile + Drop, R: RpmbPort + Drop, L: StoreName>(
     service: Service<F, R, L>,
     sessions: Vec<Session<SeedEntropy>>,
@@ -54,12 +68,12 @@ fn make_and_close<F: StoreFile + Drop, R: RpmbPort + Drop, L: StoreName>(
     replies: Vec<Reply>,
 ) -> Result<Vec<Reply>, Fault>
     requires callers { AreCallers L.store sessions.items }
-    requires one { vec_len sessions ≡ 1 }
+    requires some { 0 < vec_len sessions }
 {
     let mut service = service;
     let mut sessions = sessions;
     let mut replies = replies;
-    let made = make_calls(&mut service, &mut sessions[0], calls, &mut replies);
+    let made = make_calls(&mut service, &mut sessions, calls, &mut replies);
     let Closed { doubt, .. } = service.finish(sessions);
     match made {
         Ok(()) => Ok(replies),
@@ -80,7 +94,7 @@ fn serve_named<F: StoreFile + Drop, R: RpmbPort + Drop, L: StoreName>(
 ) -> Result<Vec<Reply>, Fault>
     requires store { IsStoreOf F.state L.store opening }
     requires sessions { AreUnseated opening.applications sessions.items }
-    requires one { vec_len sessions ≡ 1 }
+    requires some { 0 < vec_len sessions }
 {
     let mut sessions = sessions;
     match opening.serve::<SeedEntropy, L>(&mut sessions) {
@@ -99,7 +113,7 @@ fn serve_sessions<F: StoreFile + Drop, R: RpmbPort + Drop>(
 ) -> Result<Vec<Reply>, Fault>
     requires keyed { IsKeyed keys.now opening }
     requires sessions { AreUnseated opening.applications sessions.items }
-    requires one { vec_len sessions ≡ 1 }
+    requires some { 0 < vec_len sessions }
 {
     serve_named::<F, R, Brand>(opening, sessions, keys, calls, replies)
 }

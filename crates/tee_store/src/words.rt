@@ -60,6 +60,7 @@ pub enum Command {
 }
 
 // The command of that name, of those that take a folder alone.
+#[tactic(auto, unfolding(crate::specs::Verbs::folder_verb))]
 fn folder_verb(verb: &str) -> Option<Verb>
     ensures { result ≡ folder_verb verb.now }
 {
@@ -78,6 +79,7 @@ fn folder_verb(verb: &str) -> Option<Verb>
 }
 
 // The command of that name, of those that take a folder and an object.
+#[tactic(auto, unfolding(crate::specs::Verbs::object_verb))]
 fn object_verb(verb: &str) -> Option<Verb>
     ensures { result ≡ object_verb verb.now }
 {
@@ -96,6 +98,7 @@ fn object_verb(verb: &str) -> Option<Verb>
 }
 
 // The command of that name, of those that take a folder and two identifiers.
+#[tactic(auto, unfolding(crate::specs::Verbs::pair_verb))]
 fn pair_verb(verb: &str) -> Option<Verb>
     ensures { result ≡ pair_verb verb.now }
 {
