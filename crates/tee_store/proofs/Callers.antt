@@ -1,5 +1,5 @@
--- The one session of a store, before it is served and behind a call.
-use Rattle.std.proofs.Common.{◌≡◌, ◌∙◌, ◌<◌, ℕ, List, [], ◌∷◌, length, Option, Some, None, get_or, slice_index_or, refl, sym, ap, subst, inl, inr, arith}
+-- The sessions of a store behind a call.
+use Rattle.std.proofs.Common.{◌<◌, ℕ, List, length, Option, Some, None, get_or, sym, subst, inl, inr}
 use Rattle.std.specs.Prelude.{slice_set}
 use Rattle.std.proofs.lemmas.Bool.{cases_eq}
 use Rattle.std.proofs.lemmas.List.{get_or-set_other, get_or-set_same, length-set}
@@ -10,7 +10,7 @@ use Rattle.tee_types.specs.declared.reply.Reply.{Reply}
 use Rattle.core_laws.specs.Stores.{Store}
 use Rattle.commit_gate.specs.CallerSessions.{CallerSession, IsCallerOf}
 use Rattle.object_calls.specs.Calling.{AnswersCall}
-use Rattle.object_calls.specs.OpeningSessions.{AreCallers, AreUnseated, unseated}
+use Rattle.object_calls.specs.OpeningSessions.{AreCallers}
 use Rattle.object_calls.specs.Services.{ServiceValue}
 
 -- a session that made a call is the store's still
@@ -23,17 +23,6 @@ caller_behind None answered = answered.at.1.waits.caller
 pub callers_with : {E : Type 0} (store : Store) (was : List (CallerSession E)) (at : ℕ) (after : CallerSession E) → at < length was → AreCallers store was → IsCallerOf store after
     → AreCallers store (slice_set was at after)
 callers_with store was at after within callers caller i d below = elim (cases_eq i at) [
-    | inl same ↦ subst (λ k. IsCallerOf store (get_or (slice_set was at after) k d)) (sym same) (subst (IsCallerOf store) (sym (get_or-set_same was at after d within)) caller)
-    | inr other ↦ subst (IsCallerOf store) (sym (get_or-set_other was at i after d other)) (callers i d (subst (λ n. i < n) (length-set was at after) below))
-  ]
-
--- one session, of one application
-pub one_unseated : {E : Type 0} (app : List ℕ) (entropy : E) (session : CallerSession E) → session ≡ unseated 0 app entropy → AreUnseated (app ∷ []) (session ∷ [])
-one_unseated app entropy session is = record { many = refl; each = each }
-  where
-    first : session ≡ unseated 0 app session.entropy
-    first = is ∙ ap (λ (y : CallerSession _). unseated 0 app y.entropy) (sym is)
-
-    each : (i : ℕ) (d : CallerSession _) → i < 1 → slice_index_or (session ∷ []) i d ≡ unseated i (slice_index_or (app ∷ []) i []) (slice_index_or (session ∷ []) i d).entropy
-    each zero d below = first
-    each (suc i) d below = absurd (omega (arith, below))
+  | inl same ↦ subst (λ k. IsCallerOf store (get_or (slice_set was at after) k d)) (sym same) (subst (IsCallerOf store) (sym (get_or-set_same was at after d within)) caller)
+  | inr other ↦ subst (IsCallerOf store) (sym (get_or-set_other was at i after d other)) (callers i d (subst (λ n. i < n) (length-set was at after) below))
+]

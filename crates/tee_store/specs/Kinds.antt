@@ -1,19 +1,19 @@
 -- How a command ends, by what came of it, and its exit status.
 use Rattle.std.specs.Prelude.{ℕ}
 use Rattle.folder_audit.specs.declared.fault.AuditFault.{AuditFault}
-use Rattle.folder_audit.specs.declared.fault.AuditFault.TheVariants.{Refused as AuditRefused, Failed as AuditFailed, NoMemory as NoAuditMemory}
+use Rattle.folder_audit.specs.declared.fault.AuditFault.TheVariants.{Refused as AuditRefused}
 use Rattle.host_card.specs.declared.kept_card.CardFault.{CardFault}
 use Rattle.host_card.specs.declared.kept_card.CardFault.TheVariants.{Failed as CardFailed, NoMemory as NoCardMemory}
 use Rattle.kept_store.specs.declared.fault.OpenFault.{OpenFault}
-use Rattle.kept_store.specs.declared.fault.OpenFault.TheVariants.{Block, Busy as StoreBusy, Card, CardMissing, Exists, NoFolder, NoName, NoStore as NoFolderStore, Store, Unlocked, Unreadable}
+use Rattle.kept_store.specs.declared.fault.OpenFault.TheVariants.{Block, Busy as StoreBusy, Card, CardMissing, Store, Unlocked, Unreadable}
 use Rattle.store_commit.specs.declared.fault.MountFault.{MountFault}
-use Rattle.store_commit.specs.declared.fault.MountFault.TheVariants.{CardBlock, CardResult as MountResult, Directory, Failed as MountFailed, Frame as MountFrame, NoMemory as NoMountMemory, NoStore, OldFormat, Spent}
+use Rattle.store_commit.specs.declared.fault.MountFault.TheVariants.{Failed as MountFailed, NoMemory as NoMountMemory, NoStore, OldFormat, Spent}
 use Rattle.tee_types.specs.declared.reply.Cause.{Cause}
-use Rattle.tee_types.specs.declared.reply.Cause.TheVariants.{CardResult, Fault, Frame}
+use Rattle.tee_types.specs.declared.reply.Cause.TheVariants.{Fault}
 use Rattle.tee_types.specs.declared.reply.Code.{Code}
-use Rattle.tee_types.specs.declared.reply.Code.TheVariants.{AccessConflict, BadParameters, ItemNotFound, NoSpace, Overflow}
+use Rattle.tee_types.specs.declared.reply.Code.TheVariants.{NoSpace}
 use Rattle.tee_types.specs.declared.reply.Reply.{Reply}
-use Rattle.tee_types.specs.declared.reply.Reply.TheVariants.{Content, Corrupt, CounterSpent, Done as DoneReply, Found, Handle, Info, Misuse, NoMemory, NotAvailable, Refused as RefusedReply}
+use Rattle.tee_types.specs.declared.reply.Reply.TheVariants.{Corrupt, CounterSpent, Misuse, NoMemory, NotAvailable, Refused as RefusedReply}
 use Rattle.tee_store.specs.declared.kinds.Kind.{Kind}
 use Rattle.tee_store.specs.declared.kinds.Kind.TheVariants.{Busy, Damaged, Device, Done, Refused, Usage}
 

@@ -4,6 +4,7 @@ use crate::faults::Fault;
 use crate::stores::inspect;
 use crate::words::Place;
 use kept_store::Report;
+use std::io;
 
 // What the audit found of an object.
 #[derive(Clone, Copy, Debug, PartialEq, Eq)]
@@ -65,15 +66,14 @@ fn counts_of(lines: &[u8]) -> Counts {
 }
 
 // Writes the lines, and one with the counts behind them.
-fn write_report(rt: &HostRuntime, report: &Report, counts: Counts) -> Result<(), Fault> {
+fn write_lines(rt: &HostRuntime, lines: &[u8], counts: Counts) -> io::Result<()> {
     let Counts {
         whole,
         bad_blocks,
         damaged,
     } = counts;
-    rt.write_all(report.lines.as_slice()).map_err(Fault::Output)?;
+    rt.write_all(lines)?;
     println!(rt; "whole {whole}, with bad blocks {bad_blocks}, damaged {damaged}")
-        .map_err(Fault::Output)
 }
 
 /// Certifies each object of the store, of all applications, and writes a line of each and one with the counts. Nothing is changed.
@@ -82,10 +82,10 @@ fn write_report(rt: &HostRuntime, report: &Report, counts: Counts) -> Result<(),
 ///
 /// The audit ended early, or an object is not whole.
 pub fn check(rt: &HostRuntime, place: &Place) -> Result<(), Fault> {
-    let report = inspect(rt, place)?;
-    let counts = counts_of(report.lines.as_slice());
-    write_report(rt, &report, counts)?;
-    match report.end {
+    let Report { lines, end, .. } = inspect(rt, place)?;
+    let counts = counts_of(lines.as_slice());
+    write_lines(rt, lines.as_slice(), counts).map_err(Fault::Output)?;
+    match end {
         Err(fault) => Err(Fault::Audit(fault)),
         Ok(()) if counts.not_whole() > 0 => Err(Fault::Found(counts.not_whole())),
         Ok(()) => Ok(()),

@@ -45,10 +45,12 @@ fn prepare_folder(rt: &HostRuntime, folder: &str) -> Result<(), Fault> {
 // Makes an empty store under these keys.
 fn make_store(rt: &HostRuntime, folder: &str, keys: &Keys) -> Result<(), Fault> {
     let mut entropy = fresh_entropy(rt)?;
-    match create_folder_store(rt, rt.alloc(), folder, keys, &mut entropy) {
-        Ok(_) => Ok(()),
-        Err(fault) => Err(Fault::Open(fault)),
-    }
+    let opening = match create_folder_store(rt, rt.alloc(), folder, keys, &mut entropy) {
+        Ok(opening) => opening,
+        Err(fault) => return Err(Fault::Open(fault)),
+    };
+    let _devices = opening.close();
+    Ok(())
 }
 
 /// Makes an empty store, and its folder and the file of its keys where they are missing. The keys are settled before.

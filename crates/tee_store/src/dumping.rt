@@ -31,7 +31,9 @@ fn write_entry(rt: &HostRuntime, entry: &DirEntry) -> io::Result<()> {
     let format = entry.format;
     let generation = entry.generation;
     println!(rt; "object {name} of {app}")?;
-    println!(rt; "    {size} in {file:03}.bin, version {version}, format {format}, generation {generation}")
+    println!(rt;
+        "    {size} in {file:03}.bin, version {version}, format {format}, generation {generation}"
+    )
 }
 
 // Writes all of a report but its lines.
@@ -53,7 +55,8 @@ fn write_report(rt: &HostRuntime, report: &Report) -> io::Result<()> {
 pub fn dump(rt: &HostRuntime, place: &Place) -> Result<(), Fault> {
     let report = inspect(rt, place)?;
     write_report(rt, &report).map_err(Fault::Output)?;
-    match report.end {
+    let Report { end, .. } = report;
+    match end {
         Err(fault) => Err(Fault::Audit(fault)),
         Ok(()) => Ok(()),
     }

@@ -49,7 +49,13 @@ fn found_under(rt: &HostRuntime, place: &Place, keys: &Keys) -> Result<Vec<Reply
         return Ok(Vec::new(alloc));
     }
     let calls = list_calls(alloc, count)?;
-    serve_calls(alloc, opening, keys, &Caller { app, entropy }, calls.as_slice())
+    serve_calls(
+        alloc,
+        opening,
+        keys,
+        &Caller { app, entropy },
+        calls.as_slice(),
+    )
 }
 
 /// Writes a line of each object of the application: its name, a tab, and its size.

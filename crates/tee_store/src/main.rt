@@ -34,8 +34,8 @@ use kinds::{Kind, status_of};
 use listing::list;
 use objects::{get, info, put, remove, rename};
 use reporting::{report, report_alone};
-use std::process::ExitCode;
 use std::env;
+use std::process::ExitCode;
 use words::{Command, Place, Task, command_of};
 use words_fault::WordsFault;
 

@@ -5,9 +5,7 @@ use crate::faults::Fault;
 use crate::stores::{change, read};
 use crate::words::Place;
 use std::io::Read;
-use tee_types::{
-    Bytes, Call, Code, Flags, MAX_DATA, OVERWRITE, ObjectId, READ, Reply, WRITE_META,
-};
+use tee_types::{Bytes, Call, Code, Flags, MAX_DATA, OVERWRITE, ObjectId, READ, Reply, WRITE_META};
 
 // The handle of the first object that a session opens.
 const FIRST_HANDLE: u32 = 0;
@@ -15,7 +13,11 @@ const FIRST_HANDLE: u32 = 0;
 // Reads standard input to its end. More bytes than an object has are refused at once.
 fn read_object(rt: &HostRuntime) -> Result<Vec<u8>, Fault> {
     let mut bytes = Vec::new(rt.alloc());
-    if let Err(error) = rt.reader().take(MAX_DATA as u64 + 1).read_to_end(&mut bytes) {
+    if let Err(error) = rt
+        .reader()
+        .take(MAX_DATA as u64 + 1)
+        .read_to_end(&mut bytes)
+    {
         return Err(Fault::Input(error));
     }
     if MAX_DATA < bytes.len() {
@@ -59,9 +61,7 @@ pub fn get(rt: &HostRuntime, place: &Place, id: ObjectId) -> Result<(), Fault> {
     let calls = vec![in rt.alloc(); open, data]?;
     let replies = read(rt, place, calls.as_slice())?;
     match replies.last() {
-        Some(Reply::Content(bytes)) => {
-            rt.write_all(bytes.as_slice()).map_err(Fault::Output)
-        }
+        Some(Reply::Content(bytes)) => { rt.write_all(bytes.as_slice()).map_err(Fault::Output) }
         _ => Ok(()),
     }
 }
@@ -75,9 +75,13 @@ pub fn info(rt: &HostRuntime, place: &Place, id: ObjectId) -> Result<(), Fault> 
     let calls = vec![in rt.alloc(); open, info]?;
     let replies = read(rt, place, calls.as_slice())?;
     match replies.last() {
-        Some(Reply::Info {
-            size, attributes, ..
-        }) => {
+        Some(
+            Reply::Info {
+                size,
+                attributes,
+                ..
+            },
+        ) => {
             let size = Amount {
                 bytes: u64::from(*size),
             };
@@ -102,12 +106,7 @@ pub fn remove(rt: &HostRuntime, place: &Place, id: ObjectId) -> Result<(), Fault
 }
 
 /// Gives an object another identifier.
-pub fn rename(
-    rt: &HostRuntime,
-    place: &Place,
-    id: ObjectId,
-    new: ObjectId,
-) -> Result<(), Fault> {
+pub fn rename(rt: &HostRuntime, place: &Place, id: ObjectId, new: ObjectId) -> Result<(), Fault> {
     let open = open_call(id, WRITE_META);
     let rename = Call::Rename {
         handle: FIRST_HANDLE,

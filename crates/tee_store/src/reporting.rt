@@ -64,6 +64,6 @@ pub fn report_alone(rt: &HostRuntime, fault: &Fault) -> io::Result<()> {
 pub fn report(rt: &HostRuntime, command: &Command, fault: &Fault) -> io::Result<()> {
     match command {
         Command::Store { place, task } => report_task(rt, place, task, fault),
-        Command::Help | Command::Version => report_alone(rt, fault),
+        Command::Help | Command::Version => report_about(rt, "standard output", fault),
     }
 }
