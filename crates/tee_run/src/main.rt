@@ -111,10 +111,9 @@ fn lock_of<W: Files<File = File> + AllocGlobal>(
 }
 
 /// Does what the words ask, and gives the exit status. What is not done has its text on standard error.
-fn do_words<W: Files<File = File> + Input + Print + AllocGlobal + Threads + Wait + Sync + Drop>(
-    rt: &W,
-    words: &[String],
-) -> u8 {
+fn do_words<
+    W: Files<File = File> + Input + Print + Eprint + AllocGlobal + Threads + Wait + Sync + Drop,
+>(rt: &W, words: &[String]) -> u8 {
     if is_check(words) {
         return check_standard(rt);
     }
@@ -132,7 +131,7 @@ fn do_words<W: Files<File = File> + Input + Print + AllocGlobal + Threads + Wait
 }
 
 /// The exit status of a run, whose text goes to standard error.
-fn told(rt: &impl Print, status: &Status) -> u8 {
+fn told(rt: &impl Eprint, status: &Status) -> u8 {
     let number = status_number(status);
     if number != 0 {
         let _ = rt.eprintln(status_text(status));
