@@ -111,9 +111,10 @@ fn lock_of<W: Files<File = File> + AllocGlobal>(
 }
 
 /// Does what the words ask, and gives the exit status. What is not done has its text on standard error.
-fn do_words<
+fn do_words<W>(rt: &W, words: &[String]) -> u8
+where
     W: Files<File = File> + Input + Print + Eprint + AllocGlobal + Threads + Wait + Sync + Drop,
->(rt: &W, words: &[String]) -> u8 {
+{
     if is_check(words) {
         return check_standard(rt);
     }
