@@ -1,3 +1,6 @@
-pub mod Keeping
+pub mod Blocks
+pub mod Standing
+pub mod Acting
 pub mod Moments
-pub mod Requests
+pub mod WhatIsRead
+pub mod AfterCuts

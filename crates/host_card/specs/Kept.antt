@@ -1,47 +1,52 @@
--- What a file keeps of a card.
-use Rattle.std.specs.Prelude.{◌≡◌, ℕ, ◌*◌, ◌/◌, ◌<◌, ◌==◌, ◌||◌, ◌≤◌, List, length, Bool, false, IsTrue, Some}
+-- What a file keeps of a card over its calls, and what a crash leaves of it.
+use Rattle.std.specs.Prelude.{◌≡◌, ℕ, List, Option, Some, None, false, IsTrue}
+use Rattle.disk_model.specs.Bytes.{after_write}
 use Rattle.disk_model.specs.Images.{Every, Has}
 use Rattle.disk_model.specs.State.{FileState, LeftNow, LeftSince, moment}
 use Rattle.disk_model.specs.Calls.{Known}
-use Rattle.rpmb_frame.specs.Layout.{frame_of}
-use Rattle.rpmb_card.specs.Card.{CardState}
-use Rattle.rpmb_card.specs.Protocol.{program_key_kind, write_block_kind}
+use Rattle.disk_model.specs.Keeps.{Keeps}
 use Rattle.rpmb_card.specs.Arms.{no_arms}
+use Rattle.rpmb_card.specs.Card.{CardState}
 use Rattle.rpmb_card.specs.Port.{PortState}
-use Rattle.disk_model.specs.Faults.{Rose}
-use Rattle.host_card.specs.declared.kept_card.CardFault.{CardFault}
-use Rattle.host_card.specs.declared.kept_card.CardFault.TheVariants.{Failed, TooLong, NoMemory}
-use Rattle.host_card.specs.Requests.{Below, card_after_first}
+use Rattle.host_card.specs.declared.card_file.Place.{Place}
+use Rattle.host_card.specs.Places.{Off, Stands}
 
--- the request may change a card
-abbrev pub is_change : List ℕ → Bool
-is_change request = (frame_of request).kind == program_key_kind || (frame_of request).kind == write_block_kind
+-- A file that tells its bytes and can be followed keeps a card, but for a version that may be torn; and each image that a
+-- crash leaves of an honest one has the same bytes outside that version.
+pub record Holds (key : List ℕ) (s : FileState) (card : CardState) (torn : Option Place) : Type 0 where
+  pub stands : IsTrue s.tells → Known s s → Stands key s.reads torn card
+  pub left : IsTrue s.honest → (place byte : ℕ) → Off torn place → Has s.reads place byte → Every (LeftNow s) place byte
 
--- The first requests make the card. A tidy file ends behind them, and has no change pending.
-pub record Keeps (s : FileState) (card : CardState) (kept : ℕ) (tidy : Bool) : Type 0 where
-  pub room : 512 * kept ≤ length s.reads
-  pub made : card_after_first s.reads kept ≡ card
-  pub end : IsTrue tidy → length s.reads ≡ 512 * kept
-  pub settled : IsTrue tidy → IsTrue s.honest → s.settled ≡ s.reads
-  pub pending_from : IsTrue tidy → s.pending_from ≡ length s.trail
+-- each image that a crash leaves now keeps the card
+abbrev pub IsLeft : (key : List ℕ) → FileState → CardState → Type 0
+IsLeft key s card = IsTrue s.honest → (image : List ℕ) → LeftNow s image → Stands key image None card
 
--- so it is of a file that tells its bytes and can be followed
-abbrev pub KeepsCard : FileState → CardState → ℕ → Bool → Type 0
-KeepsCard s card kept tidy = IsTrue s.tells → Known s s → Keeps s card kept tidy
+-- At each moment of a run: what a crash leaves keeps the card, with a spare version made zero, or with none.
+abbrev pub HoldsCard : (key : List ℕ) (old new : FileState) → CardState → Type 0
+HoldsCard key old new card = IsTrue new.honest → (image : List ℕ) → LeftSince new (moment old) image → (torn : Option Place) × Stands key image torn card
 
--- each image that a crash may leave has the first requests
-abbrev pub HoldsFront : FileState → ℕ → Type 0
-HoldsFront s kept = IsTrue s.honest → (place byte : ℕ) → Below kept place → Has s.reads place byte → Every (LeftNow s) place byte
+-- no place
+abbrev pub Nowhere : ℕ → Type 0
+Nowhere place = ⊥
 
--- At each moment of a run: what a crash leaves has the first requests, and they make the card.
-abbrev pub HoldsCard : FileState → FileState → CardState → ℕ → Type 0
-HoldsCard old new card kept = IsTrue new.honest → (image : List ℕ) → LeftSince new (moment old) image → card_after_first image kept ≡ card
+-- The same of two runs, one after the other. The file between them is one that calls led to, and from which calls led on.
+pub record HoldsTwice (key : List ℕ) (old new : FileState) (card : CardState) : Type 0 where
+  pub between : FileState
+  pub first : Keeps Nowhere old between
+  pub second : Keeps Nowhere between new
+  pub held : HoldsCard key old between card
+  pub still : HoldsCard key between new card
 
--- why no card was read from a file: the file counted a fault, or has more requests than a file keeps
-abbrev pub HasFault : FileState → FileState → CardFault → Type 0
-HasFault old new (Failed count) = Rose old.faults new.faults × (count ≡ new.faults)
-HasFault old new (TooLong end) = (new.faults ≡ old.faults) × (8388607 < end / 512) × (IsTrue new.tells → end ≡ length new.reads)
-HasFault old new NoMemory = new ≡ old
+-- bytes were written at a place and settled
+pub record IsPut (old new : FileState) (at : ℕ) (bytes : List ℕ) : Type 0 where
+  pub reads : Known old new → new.reads ≡ after_write old.reads at bytes
+  pub settled : IsTrue new.honest → (image : List ℕ) → LeftNow new image → image ≡ new.reads
+
+-- A file was settled, and no byte of it changed: none was written, and it reads as before.
+pub record Settles (old new : FileState) : Type 0 where
+  pub reads : Known old new → new.reads ≡ old.reads
+  pub written : new.written ≡ old.written
+  pub settled : IsTrue new.honest → (image : List ℕ) → LeftNow new image → image ≡ new.reads
 
 -- a port to a card, as what is known of a port: it tells its card, and is not calm, since its file may fail
 abbrev pub kept_port : CardState → List (List ℕ) → ℕ → PortState

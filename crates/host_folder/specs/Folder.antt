@@ -24,10 +24,12 @@ pub record FolderState : Type 0 where
   -- how many syncs succeeded, and whether one failed
   pub syncs : ℕ
   pub sync_failed : Bool
+  -- whether it holds a lock of the folder
+  pub holds_lock : Bool
 
 -- a file of which no call was made yet
 abbrev pub fresh_file : List ℕ → Access → FolderState
-fresh_file path access = record { path = path; access = access; faults = 0; written = 0; syncs = 0; sync_failed = false }
+fresh_file path access = record { path = path; access = access; faults = 0; written = 0; syncs = 0; sync_failed = false; holds_lock = false }
 
 -- after a call that failed, which counted a fault and nothing else
 abbrev pub failed_once : FolderState → FolderState

@@ -1,5 +1,5 @@
 // A file in a folder of the host.
-ghost use Rattle.std.specs.Prelude.{◌≡◌, ◌+◌, ◌-◌, ◌<◌, ◌≤◌, ◌^◌, ℕ, length, min, true, false, string_bytes, IsTrue, IsErr, IfOk, OnOk, OnErr, if◌then◌else◌, is_err, is_ok};
+ghost use Rattle.std.specs.Prelude.{◌≡◌, ◌≢◌, ◌+◌, ◌-◌, ◌<◌, ◌≤◌, ◌^◌, ℕ, length, min, true, false, string_bytes, IsTrue, IsErr, IfOk, OnOk, OnErr, if◌then◌else◌, is_err, is_ok};
 ghost use Rattle.disk_model.specs.Bytes.{after_write, after_resize};
 ghost use Rattle.disk_model.specs.Images.{Has};
 ghost use Rattle.disk_model.specs.Keeps.{Outside};
@@ -8,7 +8,7 @@ ghost use Rattle.disk_model.specs.Calls.{Changes, Known, Rests, Syncs};
 ghost use Rattle.disk_model.specs.Controls.{struck};
 ghost use Rattle.tee_ports.specs.Files.{ActsByArms, HasCause, ReadsAt, StaysByArms};
 ghost use Rattle.host_folder.specs.Folder.{failed_once, file_path, folder_file, fresh_file};
-ghost use Rattle.host_folder.specs.declared.access.Access.TheVariants.{Read, Write};
+ghost use Rattle.host_folder.specs.declared.access.Access.TheVariants.{Read, ReadIfThere, Write};
 
 use crate::access::Access;
 use crate::folder_lock::FolderLock;
@@ -24,8 +24,8 @@ use tee_ports::{Failed, NoMemory, StoreFile};
 /// The file `NNN.bin` of a folder of the host, where `NNN` is its number with three digits.
 ///
 /// It is opened at the first call that needs it. A write and `set_len` make it where it is not there, for its owner alone;
-/// no other call does. Of a file that is not there the length is 0, a sync has nothing to settle, and a read fails. Each
-/// call that the system refuses counts a fault. It tells no bytes: what the host keeps of it is the host's affair.
+/// no other call does. Of a file that is not there the length is 0, a sync has nothing to settle, and a read fails, unless the
+/// file is to be read if it is there. Each call that the system refuses counts a fault. It tells no bytes: what the host keeps of it is the host's affair.
 ///
 /// Where this value made the file, the folder is synced before a sync succeeds. Once a sync failed, each later one fails.
 #[derive(Drop)]
@@ -45,12 +45,12 @@ pub struct FolderFile<'a, R> {
 }
 
 impl<'a, R> Model for FolderFile<'a, R> {
-    ghost use Rattle.std.specs.Prelude.{string_bytes};
+    ghost use Rattle.std.specs.Prelude.{string_bytes, is_some};
     ghost use Rattle.host_folder.specs.Folder.{FolderState};
 
     ghost Value = { FolderState };
 
-    ghost view = { λ f. record { path = string_bytes f.path; access = f.access; faults = f.faults; written = f.written; syncs = f.syncs; sync_failed = f.sync_failed } };
+    ghost view = { λ f. record { path = string_bytes f.path; access = f.access; faults = f.faults; written = f.written; syncs = f.syncs; sync_failed = f.sync_failed; holds_lock = is_some f.lock } };
 }
 
 impl<'a, R: Files<File = File>> FolderFile<'a, R> {
@@ -88,6 +88,24 @@ impl<'a, R: Files<File = File>> FolderFile<'a, R> {
         Ok(FolderFile::named(rt, path, Access::Read))
     }
 
+    /// The file of this number in a folder, to be read alone, if it is there: one that is not reads as one of no bytes. Nothing is
+    /// opened, and it is never made.
+    ///
+    /// # Errors
+    ///
+    /// Memory ran out.
+    pub fn read_if_there(
+        rt: &'a R,
+        alloc: Global,
+        folder: &str,
+        number: u16,
+    ) -> Result<FolderFile<'a, R>, NoMemory>
+        ensures { IfOk result (λ f. f ≡ fresh_file (file_path folder.now number) ReadIfThere) }
+    {
+        let path = file_name(alloc, folder, number)?;
+        Ok(FolderFile::named(rt, path, Access::ReadIfThere))
+    }
+
     fn named(rt: &'a R, path: String, access: Access) -> FolderFile<'a, R>
         ensures { result ≡ fresh_file (string_bytes path) access }
     {
@@ -107,7 +125,7 @@ impl<'a, R: Files<File = File>> FolderFile<'a, R> {
 
     /// The same file, which holds this lock for as long as it lives.
     pub fn holding(self, lock: FolderLock) -> FolderFile<'a, R>
-        ensures { result ≡ self.entry }
+        ensures { result ≡ record self.entry { holds_lock = true } }
     {
         FolderFile {
             lock: Some(lock),
@@ -150,9 +168,9 @@ impl<'a, R: Files<File = File>> FolderFile<'a, R> {
     // Opens the system's file to write it, and makes it where it is not there. A file to be read alone is left as it is.
     fn find_or_make(&mut self) -> io::Result<()>
         ensures same { self.new ≡ self.old }
-        ensures read_only { self.old.access ≡ Read → IsErr result }
+        ensures read_only { self.old.access ≢ Write → IsErr result }
     {
-        if self.access == Access::Read {
+        if self.access != Access::Write {
             return Err(io::Error::from(ErrorKind::PermissionDenied));
         }
         if !self.find()? {
@@ -193,13 +211,15 @@ impl<'a, R: Files<File = File>> FolderFile<'a, R> {
         ensures same { self.new ≡ self.old }
         ensures within { IfOk result (λ n. n ≤ length into.old) }
     {
-        self.find()?;
+        if !self.find()? && self.access == Access::ReadIfThere {
+            return Ok(0);
+        }
         read_full(self.opened()?, at, into)
     }
 
     fn try_write(&mut self, at: u64, from: &[u8]) -> io::Result<()>
         ensures same { self.new ≡ self.old }
-        ensures read_only { self.old.access ≡ Read → IsErr result }
+        ensures read_only { self.old.access ≢ Write → IsErr result }
     {
         self.find_or_make()?;
         self.opened()?.write_all_at(from, at)
@@ -207,7 +227,7 @@ impl<'a, R: Files<File = File>> FolderFile<'a, R> {
 
     fn try_resize(&mut self, size: u64) -> io::Result<()>
         ensures same { self.new ≡ self.old }
-        ensures read_only { self.old.access ≡ Read → IsErr result }
+        ensures read_only { self.old.access ≢ Write → IsErr result }
     {
         self.find_or_make()?;
         self.opened()?.set_len(size)
@@ -359,7 +379,7 @@ impl<'a, R: Files<File = File>> StoreFile for FolderFile<'a, R> {
             × ((folder_file self.new).reads ≡ after_write (struck (folder_file self.old)).reads at from.now)) }
         ensures left { OnOk result (self.new ≡ record self.old { written = min (self.old.written + length from.now) (2 ^ 64 - 1) }) }
         ensures failed { OnErr result (self.new ≡ failed_once self.old) }
-        ensures read_only { self.old.access ≡ Read → IsErr result }
+        ensures read_only { self.old.access ≢ Write → IsErr result }
     {
         match self.try_write(at, from) {
             Ok(()) => {
@@ -388,7 +408,7 @@ impl<'a, R: Files<File = File>> StoreFile for FolderFile<'a, R> {
             × ((folder_file self.new).reads ≡ after_resize (struck (folder_file self.old)).reads size)) }
         ensures same { OnOk result (self.new ≡ self.old) }
         ensures failed { OnErr result (self.new ≡ failed_once self.old) }
-        ensures read_only { self.old.access ≡ Read → IsErr result }
+        ensures read_only { self.old.access ≢ Write → IsErr result }
     {
         match self.try_resize(size) {
             Ok(()) => Ok(()),
@@ -477,12 +497,15 @@ mod tests {
         let folder = env::temp_dir(&rt)?.join(rt.alloc(), name.as_str())?;
         fs::create_dir(&rt, folder.as_path())?;
         let mut file = FolderFile::new(&rt, rt.alloc(), folder.as_str(), 7)?;
+        let mut if_there = FolderFile::read_if_there(&rt, rt.alloc(), folder.as_str(), 7)?;
+        let none = read_back(&mut if_there);
         let answers = (file.len(), file.sync(), read_back(&mut file));
         let there = (file.len_there(), file.is_there());
         let made = file.set_len(3);
         let there_then = file.is_there();
         fs::remove_dir_all(&rt, folder.as_path())?;
 
+        assert_eq!(rt; none, Ok((0, [9; 7])));
         assert_eq!(rt; answers, (Ok(0), Ok(()), Err(Failed { count: 1 })));
         assert_eq!(rt; there.0?, 0);
         assert!(rt; !there.1?);

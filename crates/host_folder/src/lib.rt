@@ -20,4 +20,4 @@ mod names;
 pub use access::Access;
 pub use folder_file::FolderFile;
 pub use folder_lock::{FolderLock, LockFault, Sharing, lock_folder};
-pub use names::sync_folder;
+pub use names::{CARD_FILE, sync_folder};

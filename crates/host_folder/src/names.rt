@@ -8,6 +8,10 @@ use std::io;
 use std::path::Path;
 use tee_ports::NoMemory;
 
+/// The number of the file that keeps the card of a store in a folder: behind those of the store, and of the block that an export
+/// puts there.
+pub const CARD_FILE: u16 = 275;
+
 // Where the file of this number stands.
 pub(crate) fn file_name(alloc: Global, folder: &str, number: u16) -> Result<String, NoMemory>
     ensures { IfOk result (λ path. string_bytes path ≡ file_path folder.now number) }

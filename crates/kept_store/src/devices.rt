@@ -9,15 +9,12 @@ use crate::planning::{CardPlan, Seen, seen_of};
 use crate::taking_over::BLOCK_FILE;
 use hmac_keys::{Keys, rpmb_key};
 use host_card::KeptCard;
-use host_folder::{FolderFile, FolderLock, LockFault, Sharing, lock_folder};
+use host_folder::{CARD_FILE, FolderFile, FolderLock, LockFault, Sharing, lock_folder};
 use object_calls::Bench;
 use std::alloc::Global;
 use std::fs::{File, Files};
 use tee_ports::NoMemory;
 use tee_types::{BENCH_FILES, DIRECTORY_FILE};
-
-/// The number of the file that keeps the card: behind those of the store, and of the block that an export puts there.
-pub const CARD_FILE: u16 = 275;
 
 /// The files of a folder, and a card that another file of it keeps.
 pub type FolderDevices<'a, W> = Bench<FolderFile<'a, W>, KeptCard<FolderFile<'a, W>>>;

@@ -66,10 +66,7 @@ impl fmt::Display for OpenFault {
 impl Error for OpenFault {}
 
 // Why a mount was refused, in words.
-fn write_mount_fault<W: fmt::Write>(
-    f: &mut fmt::Formatter<W>,
-    fault: &MountFault,
-) -> fmt::Result {
+fn write_mount_fault<W: fmt::Write>(f: &mut fmt::Formatter<W>, fault: &MountFault) -> fmt::Result {
     match fault {
         MountFault::NoStore => f.write_str("the card names no store"),
         MountFault::CardBlock { byte } => write!(f, "byte {byte} of the card's block 0 is damaged"),

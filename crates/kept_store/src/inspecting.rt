@@ -20,7 +20,7 @@ use rpmb_host::Host;
 use std::alloc::Global;
 use std::fs::{File, Files};
 use store_commit::{CardRead, MountFault, read_card, root_in};
-use tee_ports::Entropy;
+use tee_ports::{Entropy, StoreFile};
 use tee_types::DIRECTORY_FILE;
 
 /// What the store of a folder has in it. It carries no secret.
@@ -76,10 +76,16 @@ fn read_entries<W: Files<File = File>>(
             Ok(entries) => Ok(entries),
             Err(_) => Err(no_memory()),
         },
-        Err(DirBroken { fault, .. }) => Err(OpenFault::Store(
-            MountFault::Directory(fault).without_computed_tag(),
-        )),
+        Err(broken) => Err(directory_fault(broken)),
     }
+}
+
+// Why a directory was not loaded, without a computed tag. Its file is let go.
+fn directory_fault<F: StoreFile + Drop>(broken: DirBroken<F>) -> OpenFault
+    ensures { TellsNoTag result }
+{
+    let DirBroken { fault, .. } = broken;
+    OpenFault::Store(MountFault::Directory(fault).without_computed_tag())
 }
 
 // How an audit ended, without a computed tag.

@@ -25,11 +25,11 @@ mod planning;
 mod reading;
 mod taking_over;
 
-pub use devices::CARD_FILE;
 pub use fault::{OpenFault, Unopened};
 pub use folder::{
     FolderOpening, create_folder_store, open_folder_store, open_or_create_folder_store,
 };
+pub use host_folder::CARD_FILE;
 pub use inspecting::{Report, inspect_folder_store};
 pub use opening::open_devices;
 pub use planning::{Asked, CardPlan, Seen, plan_of, seen_of};

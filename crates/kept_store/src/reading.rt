@@ -7,7 +7,7 @@ ghost use Rattle.object_calls.specs.Opening.{IsKeyed};
 ghost use Rattle.kept_store.specs.declared.fault.OpenFault.TheVariants.{NoName};
 ghost use Rattle.kept_store.specs.Kept.{TellsNoTag};
 
-use crate::devices::{CARD_FILE, locked, look_at};
+use crate::devices::{locked, look_at};
 use crate::fault::{OpenFault, given_up, no_memory, why};
 use crate::finding::{Found, find_store};
 use crate::planning::Seen;
@@ -15,7 +15,7 @@ use crate::taking_over::BLOCK_FILE;
 use folder_audit::read_block;
 use hmac_keys::{Keys, rpmb_key};
 use host_card::read_card;
-use host_folder::{FolderFile, FolderLock, Sharing};
+use host_folder::{CARD_FILE, FolderFile, FolderLock, Sharing};
 use object_calls::{Bench, Opening, mount};
 use rpmb_card::{SimCard, SimPort};
 use std::alloc::Global;
@@ -60,9 +60,8 @@ fn kept_card<W: Files<File = File>>(
     let Ok(mut file) = FolderFile::read_only(rt, alloc, folder, CARD_FILE) else {
         return Err(no_memory());
     };
-    let mut card = SimCard::with_key(rpmb_key(keys).bytes());
-    match read_card(&mut file, &rpmb_key(keys), &mut card) {
-        Ok(()) => Ok(card),
+    match read_card(alloc, &mut file, &rpmb_key(keys)) {
+        Ok(card) => Ok(Box::into_inner(card)),
         Err(fault) => Err(OpenFault::Card(fault)),
     }
 }

@@ -4,12 +4,14 @@
 #![tactic(auto)]
 
 mod checking;
+mod exporting;
 
 ghost use Rattle.std.specs.Prelude.{◌≡◌, vec_len, IfOk};
 ghost use Rattle.folder_export.specs.Folders.{folder_count};
 
 use checking::check_standard;
-use host_folder::FolderFile;
+use exporting::{FolderTaken, lock_export};
+use host_folder::{FolderFile, FolderLock};
 use script_runner::{
     FOLDER_FILES, RunEnd, Status, blank_bench, folder_of, run, simulator_keys, status_number,
     status_text,
@@ -32,16 +34,31 @@ fn words_of(rt: &(impl Env + AllocGlobal)) -> Result<Vec<String>, io::Error> {
     Ok(words)
 }
 
-/// The files of a folder. None is opened.
+/// The file of that number in the folder that the words speak of: an audit reads it, if it is there.
+fn folder_file<'a, R: Files<File = File> + AllocGlobal + Drop>(
+    rt: &'a R,
+    words: &[String],
+    number: u16,
+) -> Result<FolderFile<'a, R>, NoMemory> {
+    let path = folder_of(words);
+    match words.first() {
+        Some(word) if word.as_str() == "audit" => {
+            FolderFile::read_if_there(rt, rt.alloc(), path, number)
+        }
+        _ => FolderFile::new(rt, rt.alloc(), path, number),
+    }
+}
+
+/// The files of the folder that the words speak of. None is opened.
 fn folder_files<'a, R: Files<File = File> + AllocGlobal + Drop>(
     rt: &'a R,
-    path: &str,
+    words: &[String],
 ) -> Result<Vec<FolderFile<'a, R>>, NoMemory>
     ensures { IfOk result (λ folder. vec_len folder ≡ folder_count) }
 {
     let mut folder = Vec::with_capacity(rt.alloc(), FOLDER_FILES)?;
     for number in 0..FOLDER_FILES as u16 {
-        folder.push(FolderFile::new(rt, rt.alloc(), path, number)?)?;
+        folder.push(folder_file(rt, words, number)?)?;
     }
     Ok(folder)
 }
@@ -54,7 +71,7 @@ fn run_standard<W: Files<File = File> + Input + Print + AllocGlobal + Threads + 
     let Ok(bench) = blank_bench(rt.alloc()) else {
         return Status::NoMemory;
     };
-    let Ok(mut folder) = folder_files(rt, folder_of(words)) else {
+    let Ok(mut folder) = folder_files(rt, words) else {
         return Status::NoMemory;
     };
     let mut source = StdSource::new(rt.reader());
@@ -82,16 +99,46 @@ fn is_check(words: &[String]) -> bool {
     }
 }
 
-fn main(rt: HostRuntime) -> ExitCode {
-    let status = match words_of(&rt) {
-        Ok(words) if is_check(words.as_slice()) => return ExitCode::from(check_standard(&rt)),
-        Ok(words) => run_standard(&rt, words.as_slice()),
-        Err(error) if error.kind() == io::ErrorKind::OutOfMemory => Status::NoMemory,
-        Err(_) => Status::Usage,
-    };
-    let number = status_number(&status);
-    if number != 0 {
-        let _ = rt.eprintln(status_text(&status));
+/// The lock that is held while the words are done: an export's, on its folder.
+fn lock_of(rt: &HostRuntime, words: &[String]) -> Result<Option<FolderLock>, FolderTaken> {
+    match words {
+        [word, path] if word.as_str() == "export" => lock_export(rt, rt.alloc(), path.as_str()),
+        _ => Ok(None),
     }
+}
+
+/// Does what the words ask, and gives the exit status. What is not done has its text on standard error.
+fn do_words(rt: &HostRuntime, words: &[String]) -> u8 {
+    if is_check(words) {
+        return check_standard(rt);
+    }
+    match lock_of(rt, words) {
+        Ok(lock) => {
+            let number = told(rt, &run_standard(rt, words));
+            drop(lock);
+            number
+        }
+        Err(taken) => {
+            let _ = eprintln!(rt; "{taken}");
+            7
+        }
+    }
+}
+
+/// The exit status of a run, whose text goes to standard error.
+fn told(rt: &HostRuntime, status: &Status) -> u8 {
+    let number = status_number(status);
+    if number != 0 {
+        let _ = rt.eprintln(status_text(status));
+    }
+    number
+}
+
+fn main(rt: HostRuntime) -> ExitCode {
+    let number = match words_of(&rt) {
+        Ok(words) => do_words(&rt, words.as_slice()),
+        Err(error) if error.kind() == io::ErrorKind::OutOfMemory => told(&rt, &Status::NoMemory),
+        Err(_) => told(&rt, &Status::Usage),
+    };
     ExitCode::from(number)
 }
