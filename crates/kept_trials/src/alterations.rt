@@ -31,6 +31,9 @@ const FILES: [Place; 5] = [
     Place::File(3),
 ];
 
+/// Each so many byte of the card's file is altered where not all are.
+const STRIDE: usize = 509;
+
 /// What is altered.
 #[derive(Clone, Copy)]
 enum Kind {
@@ -42,7 +45,6 @@ enum Kind {
     /// A bit of each so many byte of the card's file from a place on.
     Strides {
         from: usize,
-        stride: usize,
     },
     /// A file has no bytes, each in turn.
     Missing,
@@ -81,10 +83,7 @@ pub const ALL: [Alteration; 11] = [
     },
     Alteration {
         name: "bits of the card elsewhere",
-        kind: Kind::Strides {
-            from: 2560,
-            stride: 509,
-        },
+        kind: Kind::Strides { from: 2560 },
     },
     Alteration {
         name: "a file without bytes",
@@ -188,19 +187,28 @@ fn outcome_in(alloc: Global, world: &World, is_older: bool) -> anyhow::Result<Ou
     })
 }
 
-// A bit of each so many byte of the card's file is altered, from one place up to another.
-fn tally_bits(
-    alloc: Global,
-    now: &World,
-    from: usize,
-    upto: usize,
-    stride: usize,
-) -> anyhow::Result<Altered> {
+// A bit of a byte of the card's file is altered.
+fn try_bit(alloc: Global, now: &World, at: usize, tally: &mut Altered) -> anyhow::Result<()> {
+    let world = now.with_bit(alloc, Place::Card, at)?;
+    tally.add(outcome_in(alloc, &world, false)?);
+    Ok(())
+}
+
+// A bit of each byte of the card's file is altered, from one place up to another.
+fn tally_bits(alloc: Global, now: &World, from: usize, upto: usize) -> anyhow::Result<Altered> {
     let mut tally = Altered::new();
-    for place in from..upto {
-        if place % stride == 0 {
-            let world = now.with_bit(alloc, Place::Card, place)?;
-            tally.add(outcome_in(alloc, &world, false)?);
+    for at in from..upto {
+        try_bit(alloc, now, at, &mut tally)?;
+    }
+    Ok(tally)
+}
+
+// A bit of each so many byte of the card's file is altered, from a place on.
+fn tally_strides(alloc: Global, now: &World, from: usize) -> anyhow::Result<Altered> {
+    let mut tally = Altered::new();
+    for at in from..now.bytes(Place::Card).len() {
+        if at % STRIDE == 0 {
+            try_bit(alloc, now, at, &mut tally)?;
         }
     }
     Ok(tally)
@@ -248,10 +256,8 @@ impl Alteration {
     pub fn tally(&self, alloc: Global, stores: &Stores) -> anyhow::Result<Altered> {
         let now = &stores.now;
         match self.kind {
-            Kind::Bits { from, upto } => tally_bits(alloc, now, from, upto, 1),
-            Kind::Strides { from, stride } => {
-                tally_bits(alloc, now, from, now.bytes(Place::Card).len(), stride)
-            }
+            Kind::Bits { from, upto } => tally_bits(alloc, now, from, upto),
+            Kind::Strides { from } => tally_strides(alloc, now, from),
             Kind::Missing => tally_others(alloc, now, &stores.nothing),
             Kind::Zeros => tally_zeros(alloc, now),
             Kind::OtherKeys => tally_others(alloc, now, &stores.other_keys),

@@ -1,7 +1,6 @@
 // Calls of one application, served one after another.
 
-ghost use Rattle.std.specs.Prelude.{◌≡◌, [], vec_len};
-ghost use Rattle.commit_gate.specs.CallerSessions.{IsCallerOf};
+ghost use Rattle.std.specs.Prelude.{◌≡◌, ◌<◌, [], length, vec_len};
 ghost use Rattle.object_calls.specs.OpenedStores.{IsStoreOf};
 ghost use Rattle.object_calls.specs.Opening.{IsKeyed};
 ghost use Rattle.object_calls.specs.OpeningSessions.{AreCallers, AreUnseated};
@@ -21,32 +20,46 @@ fn application() -> AppId {
     AppId::from_uuid(Uuid::from_bytes([1; 16]))
 }
 
-// Makes the calls.
+// Makes a call by the first session.
+fn make_call<F: StoreFile + Drop, R: RpmbPort + Drop, L: StoreName>(
+    service: &mut Service<F, R, L>,
+    sessions: &mut [Session<ListEntropy>],
+    call: &Call,
+)
+    requires callers { AreCallers L.store sessions.old }
+    requires some { 0 < length sessions.old }
+    ensures callers { AreCallers L.store sessions.new }
+{
+    let _ = service.call(&mut sessions[0], call);
+}
+
+// Makes calls by the first session.
 fn make_calls<F: StoreFile + Drop, R: RpmbPort + Drop, L: StoreName>(
     service: &mut Service<F, R, L>,
-    session: &mut Session<ListEntropy>,
+    sessions: &mut [Session<ListEntropy>],
     calls: &[Call],
 )
-    requires { IsCallerOf L.store session.old }
-    ensures { IsCallerOf L.store session.new }
+    requires callers { AreCallers L.store sessions.old }
+    requires some { 0 < length sessions.old }
+    ensures callers { AreCallers L.store sessions.new }
 {
     for call in calls {
-        let _ = service.call(session, call);
+        make_call(service, sessions, call);
     }
 }
 
-// Makes the calls by the one session, and closes the store.
+// Makes calls by the first session, and closes the store.
 fn make_and_close<F: StoreFile + Drop, R: RpmbPort + Drop, L: StoreName>(
     service: Service<F, R, L>,
     sessions: Vec<Session<ListEntropy>>,
     calls: &[Call],
 ) -> Closed<F, R>
     requires callers { AreCallers L.store sessions.items }
-    requires one { vec_len sessions ≡ 1 }
+    requires some { 0 < vec_len sessions }
 {
     let mut service = service;
     let mut sessions = sessions;
-    make_calls(&mut service, &mut sessions[0], calls);
+    make_calls(&mut service, &mut sessions, calls);
     service.finish(sessions)
 }
 
@@ -59,7 +72,7 @@ fn serve_named<F: StoreFile + Drop, R: RpmbPort + Drop, L: StoreName>(
 ) -> anyhow::Result<Closed<F, R>>
     requires store { IsStoreOf F.state L.store opening }
     requires sessions { AreUnseated opening.applications sessions.items }
-    requires one { vec_len sessions ≡ 1 }
+    requires some { 0 < vec_len sessions }
 {
     let mut sessions = sessions;
     match opening.serve::<ListEntropy, L>(&mut sessions) {
@@ -77,7 +90,7 @@ fn serve_sessions<F: StoreFile + Drop, R: RpmbPort + Drop>(
 ) -> anyhow::Result<Closed<F, R>>
     requires keyed { IsKeyed keys.now opening }
     requires sessions { AreUnseated opening.applications sessions.items }
-    requires one { vec_len sessions ≡ 1 }
+    requires some { 0 < vec_len sessions }
 {
     serve_named::<F, R, Brand>(opening, sessions, keys, calls)
 }
