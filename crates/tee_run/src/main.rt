@@ -100,7 +100,10 @@ fn is_check(words: &[String]) -> bool {
 }
 
 /// The lock that is held while the words are done: an export's, on its folder.
-fn lock_of(rt: &HostRuntime, words: &[String]) -> Result<Option<FolderLock>, FolderTaken> {
+fn lock_of<W: Files<File = File> + AllocGlobal>(
+    rt: &W,
+    words: &[String],
+) -> Result<Option<FolderLock>, FolderTaken> {
     match words {
         [word, path] if word.as_str() == "export" => lock_export(rt, rt.alloc(), path.as_str()),
         _ => Ok(None),
@@ -108,7 +111,10 @@ fn lock_of(rt: &HostRuntime, words: &[String]) -> Result<Option<FolderLock>, Fol
 }
 
 /// Does what the words ask, and gives the exit status. What is not done has its text on standard error.
-fn do_words(rt: &HostRuntime, words: &[String]) -> u8 {
+fn do_words<W>(rt: &W, words: &[String]) -> u8
+where
+    W: Files<File = File> + Input + Print + Eprint + AllocGlobal + Threads + Wait + Sync + Drop,
+{
     if is_check(words) {
         return check_standard(rt);
     }
@@ -126,7 +132,7 @@ fn do_words(rt: &HostRuntime, words: &[String]) -> u8 {
 }
 
 /// The exit status of a run, whose text goes to standard error.
-fn told(rt: &HostRuntime, status: &Status) -> u8 {
+fn told(rt: &impl Eprint, status: &Status) -> u8 {
     let number = status_number(status);
     if number != 0 {
         let _ = rt.eprintln(status_text(status));

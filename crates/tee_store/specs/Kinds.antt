@@ -2,8 +2,8 @@
 use Rattle.std.specs.Prelude.{ℕ}
 use Rattle.folder_audit.specs.declared.fault.AuditFault.{AuditFault}
 use Rattle.folder_audit.specs.declared.fault.AuditFault.TheVariants.{Refused as AuditRefused}
-use Rattle.host_card.specs.declared.kept_card.CardFault.{CardFault}
-use Rattle.host_card.specs.declared.kept_card.CardFault.TheVariants.{Failed as CardFailed, NoMemory as NoCardMemory}
+use Rattle.host_card.specs.declared.card_fault.CardFault.{CardFault}
+use Rattle.host_card.specs.declared.card_fault.CardFault.TheVariants.{Failed as CardFailed, NoMemory as NoCardMemory}
 use Rattle.kept_store.specs.declared.fault.OpenFault.{OpenFault}
 use Rattle.kept_store.specs.declared.fault.OpenFault.TheVariants.{Block, Busy as StoreBusy, Card, CardMissing, Store, Unlocked, Unreadable}
 use Rattle.store_commit.specs.declared.fault.MountFault.{MountFault}
