@@ -58,7 +58,7 @@ impl Way {
         }
     }
 
-    /// By which seeds a crash leaves what it leaves. The seed 0 leaves what was settled, and 1 all that was written.
+    /// By which seeds a crash leaves what it leaves. 0 leaves what was settled, and 1 all that was written.
     pub fn seeds(self) -> [u64; 3] {
         match self {
             Way::Crashes => [0, 2, 5],

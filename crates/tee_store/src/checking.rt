@@ -1,18 +1,11 @@
 //! `check`: whether each object of a store is whole.
 
 use crate::faults::Fault;
+use crate::findings::{Finding, finding_of};
 use crate::stores::inspect;
 use crate::words::Place;
 use kept_store::Report;
 use std::io;
-
-// What the audit found of an object.
-#[derive(Clone, Copy, Debug, PartialEq, Eq)]
-enum Finding {
-    Whole,
-    BadBlocks,
-    Damaged,
-}
 
 // How many objects were found so.
 #[derive(Clone, Copy)]
@@ -42,15 +35,6 @@ impl Counts {
     // How many are not whole.
     fn not_whole(&self) -> u64 {
         self.bad_blocks.saturating_add(self.damaged)
-    }
-}
-
-// What the line of an object says: `# UUID ID SIZE FINDING ..`.
-fn finding_of(line: &str) -> Finding {
-    match line.split(' ').nth(4) {
-        Some("cert") => Finding::Whole,
-        Some("damaged") => Finding::Damaged,
-        _ => Finding::BadBlocks,
     }
 }
 

@@ -11,6 +11,7 @@ mod creating;
 mod dumping;
 mod faults;
 mod files;
+mod findings;
 mod help;
 mod keys;
 mod kinds;
